@@ -3,6 +3,7 @@
 //! and in whichever order.
 #![tactic(auto)]
 
+mod cost;
 mod error;
 mod gate;
 mod many;
@@ -12,9 +13,9 @@ mod programs;
 mod reach;
 mod recipients;
 mod selection;
-mod tally;
 mod workers;
 
+pub use cost::Cost;
 pub use error::FanError;
 pub use gate::Gate;
 pub use many::{MAX_WORKERS, select_many};

@@ -4,6 +4,7 @@ ghost use Rattle.program_table.specs.Connections.{numbers_of};
 ghost use Rattle.fan_out.specs.Marks.{AreInRows, AreWithin, marked_numbers};
 ghost use Rattle.fan_out.specs.Joining.{AreBoth};
 
+use crate::cost::Cost;
 use arrayvec::ArrayVec;
 use program_table::Connection;
 
@@ -39,7 +40,7 @@ fn greater(a: usize, b: usize) -> usize
 /// Which connections are marked, by their places among the connections, with room for as many as there may be. A row is
 /// noted if it has a mark, and all marks lie between two places, so that a few marks are found without a look at each
 /// place. The remainders of the marked connections' numbers are noted, so that most other connections are known without
-/// a search for their place.
+/// a search for their place. What it cost to find those that were listed last stands beside them.
 #[derive(Drop)]
 pub struct Marks {
     pub(crate) places: [bool; MAX_RECIPIENTS],
@@ -49,6 +50,7 @@ pub struct Marks {
     low: usize,
     /// No mark lies at or after this place.
     high: usize,
+    cost: Cost,
     ghost size: { length places ≡ 4096 },
     ghost row_count: { length rows ≡ 256 },
     ghost remainder_count: { length remainders ≡ 256 },
@@ -70,7 +72,17 @@ impl Marks {
             remainders: [false; REMAINDERS],
             low: MAX_RECIPIENTS,
             high: 0,
+            cost: Cost::none(),
         }
+    }
+
+    /// What it cost to find the recipients that were listed last.
+    pub fn cost(&self) -> Cost {
+        self.cost
+    }
+
+    pub(crate) fn note_cost(&mut self, cost: Cost) {
+        self.cost = cost;
     }
 
     /// No connection is marked any more. Only the places between which the marks lie are written.

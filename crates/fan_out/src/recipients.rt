@@ -16,6 +16,7 @@ ghost use Rattle.fan_out.specs.Marks.{mark_count, AreNoted, IsMarked, IsMarkedMo
 ghost use Rattle.fan_out.specs.Pieces.{ArePieceRecipients};
 ghost use Rattle.fan_out.specs.Marking.{MayBeMarked, NeedsNoRun, NeedsImage, IsAsked, ReadsOne, Considers, AreMarkedSoFar, AreMarkedRecipients};
 
+use crate::cost::Cost;
 use crate::marks::{MAX_RECIPIENTS, Marks};
 use crate::piece::Piece;
 use crate::programs::{Programs, edition_of};
@@ -96,13 +97,13 @@ fn ask<'a, M: Handle>(
     requires state { IsState state.now }
     requires connected { is_connected entry.now.connection state.now.connections ≡ true }
     requires noted { AreNoted (numbers_of state.now.connections) marks.old.places marks.old.remainders }
-    requires room { programs.old.tally.runs < max_entries }
+    requires room { programs.old.cost.runs < max_entries }
     requires image { IsImage (edition_of entry.now.filter) programs.old.view.now programs.old.owned.now image.now }
     requires unmarked { MayBeMarked state.now piece.part piece.of programs.old.view.now entry.now marks.old.places }
     ensures view { programs.new.view.now ≡ programs.old.view.now }
     ensures owned { programs.new.owned.now ≡ programs.old.owned.now }
     ensures noted { AreNoted (numbers_of state.now.connections) marks.new.places marks.new.remainders }
-    ensures asked { IsAsked (numbers_of state.now.connections) piece.part piece.of programs.old.view.now programs.old.owned.now entry.now marks.old.places marks.new.places programs.old.tally.runs programs.new.tally.runs }
+    ensures asked { IsAsked (numbers_of state.now.connections) piece.part piece.of programs.old.view.now programs.old.owned.now entry.now marks.old.places marks.new.places programs.old.cost.runs programs.new.cost.runs }
 {
     if programs.matches(image, &entry.filter) {
         mark(state, marks, entry.connection);
@@ -122,11 +123,11 @@ fn consider<M: Handle>(
     requires state { IsState state.now }
     requires connected { is_connected entry.now.connection state.now.connections ≡ true }
     requires noted { AreNoted (numbers_of state.now.connections) marks.old.places marks.old.remainders }
-    requires room { programs.old.tally.runs < max_entries }
+    requires room { programs.old.cost.runs < max_entries }
     ensures view { programs.new.view.now ≡ programs.old.view.now }
     ensures owned { programs.new.owned.now ≡ programs.old.owned.now }
     ensures noted { AreNoted (numbers_of state.now.connections) marks.new.places marks.new.remainders }
-    ensures considered { MatchBool result (NeedsImage state.now piece.part piece.of programs.old.view.now entry.now marks.old.places marks.new.places programs.old.tally.runs programs.new.tally.runs) (Considers state.now piece.part piece.of programs.old.view.now programs.old.owned.now entry.now marks.old.places marks.new.places programs.old.tally.runs programs.new.tally.runs) }
+    ensures considered { MatchBool result (NeedsImage state.now piece.part piece.of programs.old.view.now entry.now marks.old.places marks.new.places programs.old.cost.runs programs.new.cost.runs) (Considers state.now piece.part piece.of programs.old.view.now programs.old.owned.now entry.now marks.old.places marks.new.places programs.old.cost.runs programs.new.cost.runs) }
 {
     if is_passed_over(state, piece, entry, programs, marks) {
         return false;
@@ -155,12 +156,12 @@ fn consider_over_edition_two<'a, M: Handle>(
     requires state { IsState state.now }
     requires connected { is_connected entry.now.connection state.now.connections ≡ true }
     requires noted { AreNoted (numbers_of state.now.connections) marks.old.places marks.old.remainders }
-    requires room { programs.old.tally.runs < max_entries }
+    requires room { programs.old.cost.runs < max_entries }
     requires edition_two { IsImage Two programs.old.view.now programs.old.owned.now edition_two.now }
     ensures view { programs.new.view.now ≡ programs.old.view.now }
     ensures owned { programs.new.owned.now ≡ programs.old.owned.now }
     ensures noted { AreNoted (numbers_of state.now.connections) marks.new.places marks.new.remainders }
-    ensures considered { MatchBool result (ReadsOne state.now piece.part piece.of programs.old.view.now entry.now marks.old.places marks.new.places programs.old.tally.runs programs.new.tally.runs) (Considers state.now piece.part piece.of programs.old.view.now programs.old.owned.now entry.now marks.old.places marks.new.places programs.old.tally.runs programs.new.tally.runs) }
+    ensures considered { MatchBool result (ReadsOne state.now piece.part piece.of programs.old.view.now entry.now marks.old.places marks.new.places programs.old.cost.runs programs.new.cost.runs) (Considers state.now piece.part piece.of programs.old.view.now programs.old.owned.now entry.now marks.old.places marks.new.places programs.old.cost.runs programs.new.cost.runs) }
 {
     if !consider(state, piece, entry, programs, marks) {
         return false;
@@ -187,20 +188,20 @@ fn consider_over_both<'a, M: Handle>(
     requires state { IsState state.now }
     requires connected { is_connected entry.now.connection state.now.connections ≡ true }
     requires noted { AreNoted (numbers_of state.now.connections) marks.old.places marks.old.remainders }
-    requires room { programs.old.tally.runs < max_entries }
+    requires room { programs.old.cost.runs < max_entries }
     requires edition_one { IsImage One programs.old.view.now programs.old.owned.now edition_one.now }
     requires edition_two { IsImage Two programs.old.view.now programs.old.owned.now edition_two.now }
     ensures view { programs.new.view.now ≡ programs.old.view.now }
     ensures owned { programs.new.owned.now ≡ programs.old.owned.now }
     ensures noted { AreNoted (numbers_of state.now.connections) marks.new.places marks.new.remainders }
-    ensures considered { Considers state.now piece.part piece.of programs.old.view.now programs.old.owned.now entry.now marks.old.places marks.new.places programs.old.tally.runs programs.new.tally.runs }
+    ensures considered { Considers state.now piece.part piece.of programs.old.view.now programs.old.owned.now entry.now marks.old.places marks.new.places programs.old.cost.runs programs.new.cost.runs }
 {
     if consider_over_edition_two(state, piece, entry, programs, edition_two, marks) {
         ask(state, piece, entry, programs, edition_one, marks);
     }
 }
 
-/// Considers an entry whose program reads edition 1, and all entries after it, and tells how many programs were run. It
+/// Considers an entry whose program reads edition 1, and all entries after it, and tells what was run. It
 /// is a function of its own, since a function clears room for its values whenever it is called, and few messages need an
 /// image of edition 1.
 #[inline(never)]
@@ -212,17 +213,17 @@ fn consider_with_edition_one<'a, M: Handle>(
     mut programs: Programs<'_, 'a>,
     edition_two: &Image<'a>,
     marks: &mut Marks,
-) -> u32
+) -> Cost
     requires state { IsState state.now }
-    requires few { programs.tally.runs + (length others.old + 1) ≤ max_entries }
+    requires few { programs.cost.runs + (length others.old + 1) ≤ max_entries }
     requires connected { (e : Entry) → Contains (first.now ∷ others.old) e → is_connected e.connection state.now.connections ≡ true }
     requires noted { AreNoted (numbers_of state.now.connections) marks.old.places marks.old.remainders }
     requires unmarked { MayBeMarked state.now piece.part piece.of programs.view.now first.now marks.old.places }
     requires edition { edition_of first.now.filter ≡ One }
     requires edition_two { IsImage Two programs.view.now programs.owned.now edition_two.now }
     ensures marked { (all : List Entry)
-        → AreMarkedSoFar state.now piece.part piece.of programs.entry.view.now programs.entry.owned.now all (first.now ∷ others.old) marks.old.places programs.entry.tally.runs
-        → AreMarkedSoFar state.now piece.part piece.of programs.entry.view.now programs.entry.owned.now all [] marks.new.places result }
+        → AreMarkedSoFar state.now piece.part piece.of programs.entry.view.now programs.entry.owned.now all (first.now ∷ others.old) marks.old.places programs.entry.cost.runs
+        → AreMarkedSoFar state.now piece.part piece.of programs.entry.view.now programs.entry.owned.now all [] marks.new.places result.runs }
 {
     let mut edition_one = Image::empty();
     edition_one.fill(programs.view, programs.owned, Edition::One);
@@ -238,10 +239,10 @@ fn consider_with_edition_one<'a, M: Handle>(
             marks,
         );
     }
-    programs.runs()
+    programs.cost()
 }
 
-/// Considers an entry whose program reads an image, and all entries after it, and tells how many programs were run. The
+/// Considers an entry whose program reads an image, and all entries after it, and tells what was run. The
 /// image of edition 2, which rules read, is made here: a rule of which nothing is left to test needs none.
 #[inline(never)]
 fn consider_with_edition_two<'a, M: Handle>(
@@ -251,14 +252,14 @@ fn consider_with_edition_two<'a, M: Handle>(
     others: &mut Offers<'_>,
     mut programs: Programs<'_, 'a>,
     marks: &mut Marks,
-) -> u32
+) -> Cost
     requires state { IsState state.now }
-    requires few { programs.tally.runs + (length others.old + 1) ≤ max_entries }
+    requires few { programs.cost.runs + (length others.old + 1) ≤ max_entries }
     requires connected { (e : Entry) → Contains (first.now ∷ others.old) e → is_connected e.connection state.now.connections ≡ true }
     requires noted { AreNoted (numbers_of state.now.connections) marks.old.places marks.old.remainders }
     ensures marked { (all : List Entry)
-        → AreMarkedSoFar state.now piece.part piece.of programs.entry.view.now programs.entry.owned.now all (first.now ∷ others.old) marks.old.places programs.entry.tally.runs
-        → AreMarkedSoFar state.now piece.part piece.of programs.entry.view.now programs.entry.owned.now all [] marks.new.places result }
+        → AreMarkedSoFar state.now piece.part piece.of programs.entry.view.now programs.entry.owned.now all (first.now ∷ others.old) marks.old.places programs.entry.cost.runs
+        → AreMarkedSoFar state.now piece.part piece.of programs.entry.view.now programs.entry.owned.now all [] marks.new.places result.runs }
 {
     let mut edition_two = Image::empty();
     edition_two.fill(programs.view, programs.owned, Edition::Two);
@@ -277,12 +278,12 @@ fn consider_with_edition_two<'a, M: Handle>(
         }
         match others.next() {
             Some(next) => entry = next,
-            None => return programs.runs(),
+            None => return programs.cost(),
         }
     }
 }
 
-/// Considers the entries that a message is offered to, one after the other, and tells how many programs were run.
+/// Considers the entries that a message is offered to, one after the other, and tells what was run.
 fn consider_all<M: Handle>(
     state: &BusState<M>,
     piece: Piece,
@@ -290,13 +291,13 @@ fn consider_all<M: Handle>(
     others: &mut Offers<'_>,
     mut programs: Programs<'_, '_>,
     marks: &mut Marks,
-) -> u32
+) -> Cost
     requires state { IsState state.now }
     requires few { length others.old + 1 ≤ max_entries }
     requires connected { (e : Entry) → Contains (first.now ∷ others.old) e → is_connected e.connection state.now.connections ≡ true }
-    requires none_run { programs.tally.runs ≡ 0 }
+    requires none_run { programs.cost.runs ≡ 0 }
     requires none_marked { marks.old.places ≡ replicate MAX_RECIPIENTS false }
-    ensures marked { AreMarkedSoFar state.now piece.part piece.of programs.entry.view.now programs.entry.owned.now (first.now ∷ others.old) [] marks.new.places result }
+    ensures marked { AreMarkedSoFar state.now piece.part piece.of programs.entry.view.now programs.entry.owned.now (first.now ∷ others.old) [] marks.new.places result.runs }
 {
     let mut entry = first;
     'entries: loop {
@@ -305,7 +306,7 @@ fn consider_all<M: Handle>(
         }
         match others.next() {
             Some(next) => entry = next,
-            None => return programs.runs(),
+            None => return programs.cost(),
         }
     }
 }
@@ -321,13 +322,13 @@ fn consider_offered<'a, M: Handle>(
     first: &Entry,
     others: &mut Offers<'_>,
     marks: &mut Marks,
-) -> u32
+) -> Cost
     requires state { IsState state.now }
     requires offers { (m : Message) → Valid view.now m → AreOffered state.now.registrations.entries (texts_of m) (first.now ∷ others.old) }
     requires none_marked { marks.old.places ≡ replicate MAX_RECIPIENTS false }
     ensures exact { (m : Message) → Valid view.now m → AreMarkedRecipients state.now sender m piece.part piece.of marks.new.places }
-    ensures most { result ≤ length others.old + 1 }
-    ensures least { mark_count marks.new.places ≤ result }
+    ensures most { result.runs ≤ length others.old + 1 }
+    ensures least { mark_count marks.new.places ≤ result.runs }
 {
     ends_in_one_way();
     offered_where_it_holds();
@@ -337,7 +338,7 @@ fn consider_offered<'a, M: Handle>(
     consider_all(state, piece, first, others, programs, marks)
 }
 
-/// Marks the recipients of a message among the connections of a piece, and tells how many programs were run. Without a
+/// Marks the recipients of a message among the connections of a piece, and tells what was run. Without a
 /// sender it is of the bus.
 pub(crate) fn mark_recipients<'a, M: Handle>(
     state: &'a BusState<M>,
@@ -345,22 +346,22 @@ pub(crate) fn mark_recipients<'a, M: Handle>(
     view: &View<'a>,
     piece: Piece,
     marks: &mut Marks,
-) -> u32
+) -> Cost
     requires { marks.old.places ≡ replicate MAX_RECIPIENTS false }
     ensures exact { (m : Message) → Valid view.entry.now m → AreMarkedRecipients state.entry.now sender m piece.part piece.of marks.new.places }
-    ensures most { (m : Message) → Valid view.entry.now m → result ≤ length (candidates state.entry.now m) }
-    ensures least { mark_count marks.new.places ≤ result }
+    ensures most { (m : Message) → Valid view.entry.now m → result.runs ≤ length (candidates state.entry.now m) }
+    ensures least { mark_count marks.new.places ≤ result.runs }
     ensures state { IsState state.entry.now }
 {
     offered_where_it_holds();
     let mut offers = state.entries_for(view, view.sender());
     match offers.next() {
-        None => 0,
+        None => Cost::none(),
         Some(first) => { consider_offered(state, sender, view, piece, first, &mut offers, marks) }
     }
 }
 
-/// Lists the recipients of a message among the connections of a piece, and tells how many programs were run. Whatever was
+/// Lists the recipients of a message among the connections of a piece, and tells what was run. Whatever was
 /// marked before isn't any more.
 pub(crate) fn list_recipients<'a, M: Handle>(
     state: &'a BusState<M>,
@@ -369,14 +370,14 @@ pub(crate) fn list_recipients<'a, M: Handle>(
     piece: Piece,
     marks: &mut Marks,
     recipients: &mut ArrayVec<u64, MAX_RECIPIENTS>,
-) -> u32
+) -> Cost
     requires { recipients.old.items ≡ [] }
     ensures exact { (m : Message) → Valid view.entry.now m → ArePieceRecipients state.entry.now sender m piece.part piece.of recipients.new.items }
-    ensures most { (m : Message) → Valid view.entry.now m → result ≤ length (candidates state.entry.now m) }
-    ensures least { length recipients.new.items ≤ result }
+    ensures most { (m : Message) → Valid view.entry.now m → result.runs ≤ length (candidates state.entry.now m) }
+    ensures least { length recipients.new.items ≤ result.runs }
 {
     marks.clear();
-    let runs = mark_recipients(state, sender, view, piece, marks);
+    let cost = mark_recipients(state, sender, view, piece, marks);
     marks.list(state.connections(), recipients);
-    runs
+    cost
 }

@@ -26,8 +26,8 @@ pub fn select<'a, M: Handle>(
     recipients
 }
 
-/// As `select`, into an empty list of the caller's, by marks of the caller's. Both have room for each connection, which needn't
-/// be cleared and copied for each message.
+/// As `select`, into an empty list of the caller's, by marks of the caller's, which tell what it cost. Both have room for each
+/// connection, which needn't be cleared and copied for each message.
 pub fn select_into<'a, M: Handle>(
     state: &'a BusState<M>,
     sender: Option<u64>,
@@ -38,7 +38,7 @@ pub fn select_into<'a, M: Handle>(
     requires { recipients.old.items ≡ [] }
     ensures { (m : Message) → Valid view.now m → AreRecipients state.now sender m recipients.new.items }
 {
-    list_recipients(
+    let cost = list_recipients(
         state,
         sender,
         view,
@@ -46,6 +46,7 @@ pub fn select_into<'a, M: Handle>(
         marks,
         recipients,
     );
+    marks.note_cost(cost);
 }
 
 /// Recipients, and how many programs were run to find them.
@@ -68,7 +69,7 @@ pub fn select_counted<'a, M: Handle>(
 {
     let mut marks = Marks::new();
     let mut recipients = ArrayVec::new();
-    let runs = list_recipients(
+    let cost = list_recipients(
         state,
         sender,
         view,
@@ -76,7 +77,10 @@ pub fn select_counted<'a, M: Handle>(
         &mut marks,
         &mut recipients,
     );
-    Counted { recipients, runs }
+    Counted {
+        recipients,
+        runs: cost.runs,
+    }
 }
 
 /// The recipients among the connections whose number leaves `part` - 1 when divided by `of`.

@@ -70,8 +70,11 @@ impl<M: Mailbox> Monitors<M> {
         Ok(())
     }
 
-    /// Takes away a connection's monitor, if it has one.
+    /// Takes away a connection's monitor, if it has one. Where nobody watches it costs one look at a number.
     pub fn remove<W: Wait>(&self, rt: &W, number: u64) {
+        if self.is_empty() {
+            return;
+        }
         let mut list = self.list.lock(rt);
         list.retain(|monitor| monitor.number() != number);
         self.count.store(list.len(), Ordering::SeqCst);

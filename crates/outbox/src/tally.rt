@@ -9,18 +9,24 @@ pub struct Tally {
     broadcasts: AtomicU64,
     recipients: AtomicU64,
     refused: AtomicU64,
+    programs: AtomicU64,
+    steps: AtomicU64,
     unicasts: AtomicU64,
 }
 
-/// What a tally stands at.
+/// What a tally stands at, or what is added to it.
 #[derive(Clone, Copy, Debug, PartialEq, Eq)]
 pub struct Counts {
     /// Signals without a destination.
     pub broadcasts: u64,
-    /// Those into whose outboxes they were put, all together.
+    /// Their recipients, all together, those whose outboxes refused them among them.
     pub recipients: u64,
     /// Those whose outboxes refused them, since they were full or shut.
     pub refused: u64,
+    /// The programs that were run to find their recipients.
+    pub programs: u64,
+    /// The instructions that these programs performed.
+    pub steps: u64,
     /// Messages with a destination other than the bus.
     pub unicasts: u64,
 }
@@ -32,6 +38,8 @@ impl Counts {
             broadcasts: 0,
             recipients: 0,
             refused: 0,
+            programs: 0,
+            steps: 0,
             unicasts: 0,
         }
     }
@@ -42,8 +50,17 @@ impl Counts {
             broadcasts: self.broadcasts.wrapping_add(other.broadcasts),
             recipients: self.recipients.wrapping_add(other.recipients),
             refused: self.refused.wrapping_add(other.refused),
+            programs: self.programs.wrapping_add(other.programs),
+            steps: self.steps.wrapping_add(other.steps),
             unicasts: self.unicasts.wrapping_add(other.unicasts),
         }
+    }
+}
+
+/// Adds to a counter. Most counts of a message are of nothing.
+fn count(counter: &AtomicU64, more: u64) {
+    if more > 0 {
+        counter.fetch_add(more, Ordering::SeqCst);
     }
 }
 
@@ -54,35 +71,20 @@ impl Tally {
             broadcasts: AtomicU64::new(0),
             recipients: AtomicU64::new(0),
             refused: AtomicU64::new(0),
+            programs: AtomicU64::new(0),
+            steps: AtomicU64::new(0),
             unicasts: AtomicU64::new(0),
         }
     }
 
-    /// Counts a broadcast, with its recipients and those whose outboxes refused it.
-    pub fn count_broadcast(&self, recipients: usize, refused: usize) {
-        self.broadcasts.fetch_add(1, Ordering::SeqCst);
-        if recipients > 0 {
-            self.recipients
-                .fetch_add(recipients as u64, Ordering::SeqCst);
-        }
-        if refused > 0 {
-            self.refused.fetch_add(refused as u64, Ordering::SeqCst);
-        }
-    }
-
-    /// Counts a message to a name.
-    pub fn count_unicast(&self) {
-        self.unicasts.fetch_add(1, Ordering::SeqCst);
-    }
-
-    /// Counts what another tally stands at.
+    /// Counts more.
     pub fn add(&self, counts: Counts) {
-        self.broadcasts
-            .fetch_add(counts.broadcasts, Ordering::SeqCst);
-        self.recipients
-            .fetch_add(counts.recipients, Ordering::SeqCst);
-        self.refused.fetch_add(counts.refused, Ordering::SeqCst);
-        self.unicasts.fetch_add(counts.unicasts, Ordering::SeqCst);
+        count(&self.broadcasts, counts.broadcasts);
+        count(&self.recipients, counts.recipients);
+        count(&self.refused, counts.refused);
+        count(&self.programs, counts.programs);
+        count(&self.steps, counts.steps);
+        count(&self.unicasts, counts.unicasts);
     }
 
     /// What it stands at.
@@ -91,6 +93,8 @@ impl Tally {
             broadcasts: self.broadcasts.load(Ordering::SeqCst),
             recipients: self.recipients.load(Ordering::SeqCst),
             refused: self.refused.load(Ordering::SeqCst),
+            programs: self.programs.load(Ordering::SeqCst),
+            steps: self.steps.load(Ordering::SeqCst),
             unicasts: self.unicasts.load(Ordering::SeqCst),
         }
     }

@@ -3,7 +3,7 @@
 ghost use Rattle.std.specs.Prelude.{◌≡◌, []};
 
 use arrayvec::ArrayVec;
-use fan_out::{MAX_RECIPIENTS, Marks};
+use fan_out::{Cost, MAX_RECIPIENTS, Marks};
 
 /// The recipients of a broadcast, and those whose outbox refused it, by rising number, with the marks by which they are
 /// found. Each list has room for as many connections as a bus may have, 32 kilobytes, so whoever sends many messages keeps the
@@ -26,6 +26,11 @@ impl RouteLists {
             recipients: ArrayVec::new(),
             refused: ArrayVec::new(),
         }
+    }
+
+    /// What it cost to find the recipients of the last broadcast.
+    pub fn cost(&self) -> Cost {
+        self.marks.cost()
     }
 
     /// Empties both lists.

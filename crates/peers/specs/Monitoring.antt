@@ -18,7 +18,7 @@ use Rattle.peers.specs.Rows.{Replies}
 module _ {M : Type 0} where
   -- the client is told by NameLost that its unique name is gone, if there is room and memory for that
   abbrev pub LosesOwnName : PeerState M → PeerState M → Type 0
-  LosesOwnName v w = (told : Result (Unit {0}) AnswerError) × IsPut (AreAsked (told_asked v.serial (codes "NameLost") (name_of v) v.pass.connection)) (after_serial v) told w
+  LosesOwnName v w = (outcome : Result (Unit {0}) AnswerError) × IsPut (AreAsked (told_asked v.serial (codes "NameLost") (name_of v) v.pass.connection)) (after_serial v) outcome w
 
   -- once the peer has left the bus it loses its unique name
   abbrev pub IsUnder : Leaving → PeerState M → Result (Unit {0}) AnswerError → PeerState M → Type 0

@@ -11,17 +11,21 @@ use Rattle.peers.specs.declared.error.AnswerError.{AnswerError}
 use Rattle.peers.specs.declared.refused.Refused.{Refused}
 use Rattle.peers.specs.declared.request.Request.{Request}
 
--- the arguments tell facts, or lists of rules
-abbrev pub IsInsight : Body → Type 0
-IsInsight (Facts _) = Unit {0}
-IsInsight (TextLists _) = Unit {0}
-IsInsight _ = ⊥
+-- the arguments are facts
+abbrev pub AreFacts : Body → Type 0
+AreFacts (Facts _) = Unit {0}
+AreFacts _ = ⊥
+
+-- the arguments are lists of texts
+abbrev pub AreTextLists : Body → Type 0
+AreTextLists (TextLists _) = Unit {0}
+AreTextLists _ = ⊥
 
 module _ {M : Type 0} where
-  -- The call is answered with facts, or with an error, and changes nothing else.
-  abbrev pub AnswersInsight : Request → PeerState M → Result (Unit {0}) AnswerError → PeerState M → Type 0
-  AnswersInsight request v result w = ((body : Body) × IsInsight body × Replies request body v result w) ⊎ ((why : Refused) × IsRefused request why v result w)
+  -- The call is answered with arguments of this form, or with an error, and changes nothing else.
+  abbrev pub AnswersInsight : (Body → Type 0) → Request → PeerState M → Result (Unit {0}) AnswerError → PeerState M → Type 0
+  AnswersInsight IsOfForm request v result w = ((body : Body) × IsOfForm body × Replies request body v result w) ⊎ ((why : Refused) × IsRefused request why v result w)
 
   -- the same once the pass has seen who owns a name
-  abbrev pub AnswersInsightLater : Request → PeerState M → Result (Unit {0}) AnswerError → PeerState M → Type 0
-  AnswersInsightLater request v result w = (pass : PassState M) × HasSeenMore v.pass pass × AnswersInsight request (with_pass v pass) result w
+  abbrev pub AnswersInsightLater : (Body → Type 0) → Request → PeerState M → Result (Unit {0}) AnswerError → PeerState M → Type 0
+  AnswersInsightLater IsOfForm request v result w = (pass : PassState M) × HasSeenMore v.pass pass × AnswersInsight IsOfForm request (with_pass v pass) result w

@@ -18,7 +18,7 @@ use Rattle.peers.specs.PeerState.{PeerState}
 use Rattle.peers.specs.Queries.{RepliesText, RepliesTexts, RepliesDigits, RepliesMachineId, AnswersFound, AreAllNames, AreQueuedFor, AnswersOwner, NamesOwner, TellsWhetherOwned, TellsOfOwned, bus_id, credentials_of, user_found}
 use Rattle.peers.specs.Rows.{Replies, IsConfirmed, NumbersEntry}
 use Rattle.peers.specs.Shares.{WithinShare, WithinMemory, WithinAll, rule_limit, program_limit}
-use Rattle.peers.specs.Stats.{AnswersInsight, AnswersInsightLater}
+use Rattle.peers.specs.Stats.{AreFacts, AreTextLists, AnswersInsight, AnswersInsightLater}
 use Rattle.peers.specs.declared.error.AnswerError.{AnswerError}
 use Rattle.peers.specs.declared.refused.Refused.TheVariants.{Error}
 use Rattle.peers.specs.declared.request.Request.{Request}
@@ -50,9 +50,9 @@ module _ {M : Type 0} where
   Performs outbox_of shares request (calls.GetAdtAuditSessionData name) v result w = AnswersOwner name.now (TellsOfOwned request (Err names.AdtAuditDataUnknown) names.NameHasNoOwner) v result w
   Performs outbox_of shares request (calls.GetConnectionSelinuxSecurityContext name) v result w = AnswersOwner name.now (TellsOfOwned request (Err names.SelinuxSecurityContextUnknown) names.NameHasNoOwner) v result w
   Performs outbox_of shares request (calls.BecomeMonitor rules flags) v result w = BecomesMonitor outbox_of request v result w
-  Performs outbox_of shares request calls.GetStats v result w = AnswersInsight request v result w
-  Performs outbox_of shares request (calls.GetConnectionStats name) v result w = AnswersInsightLater request v result w
-  Performs outbox_of shares request calls.GetAllMatchRules v result w = AnswersInsight request v result w
+  Performs outbox_of shares request calls.GetStats v result w = AnswersInsight AreFacts request v result w
+  Performs outbox_of shares request (calls.GetConnectionStats name) v result w = AnswersInsightLater AreFacts request v result w
+  Performs outbox_of shares request calls.GetAllMatchRules v result w = AnswersInsight AreTextLists request v result w
   Performs outbox_of shares request calls.ListActivatableNames v result w = RepliesTexts request (bus_name ∷ []) v result w
   Performs outbox_of shares request calls.Ping v result w = Replies request bodies.Nothing v result w
   Performs outbox_of shares request (calls.Get property) v result w = Replies request (bodies.Property property) v result w

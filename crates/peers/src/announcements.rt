@@ -14,6 +14,7 @@ use crate::error::AnswerError;
 use crate::peer::Peer;
 use bus_messages::{BuildError, Bytes, UniqueName, name_acquired, name_lost, name_owner_changed};
 use message_view::View;
+use outbox::Counts;
 use owners::Change;
 use router::{Mailbox, Naming, RouteLists, Source};
 use std::sync::Wait;
@@ -245,10 +246,15 @@ impl<B: Naming, M: Mailbox> Peer<B, M> {
     // Counts a broadcast, unless it is the bus's.
     fn count_broadcast(&self, source: Source, lists: &RouteLists) {
         if source == Source::Own {
-            let refused = lists.refused.len();
-            self.own
-                .tally()
-                .count_broadcast(lists.recipients.len(), refused);
+            let cost = lists.cost();
+            self.own.tally().add(Counts {
+                broadcasts: 1,
+                recipients: lists.recipients.len() as u64,
+                refused: lists.refused.len() as u64,
+                programs: u64::from(cost.runs),
+                steps: cost.steps,
+                unicasts: 0,
+            });
         }
     }
 }

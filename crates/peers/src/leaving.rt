@@ -149,7 +149,7 @@ impl<B: Naming, M: Mailbox> Peer<B, M> {
     {
         match closed {
             Ok(_) => {
-                context.bus.gone().add(self.own.tally().counts());
+                context.bus.tally_of_gone().add(self.own.tally().counts());
                 let _ = self.announce_departure(context, lists);
                 self.end_calls(context);
                 Leaving::Done

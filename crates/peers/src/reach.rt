@@ -6,6 +6,7 @@ ghost use Rattle.peers.specs.Passing.{HasSeenMore, IsForNobody, with_pass};
 use crate::context::Context;
 use crate::peer::Peer;
 use message_view::View;
+use outbox::Counts;
 use router::{Mailbox, Naming};
 use std::sync::Wait;
 
@@ -27,7 +28,10 @@ impl<B: Naming, M: Mailbox> Peer<B, M> {
         }
         let reaches_nobody = self.is_for_nobody(view);
         if reaches_nobody {
-            self.own.tally().count_broadcast(0, 0);
+            self.own.tally().add(Counts {
+                broadcasts: 1,
+                ..Counts::none()
+            });
         }
         reaches_nobody
     }

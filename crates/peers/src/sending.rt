@@ -17,6 +17,7 @@ use crate::request::Request;
 use bus_messages::{Bytes, ErrorName, Exceeded, UniqueName};
 use message_build::{StampError, stamp};
 use message_view::{Kind, View};
+use outbox::Counts;
 use router::{BusError, Mailbox, Naming, RouteLists, Sent, Source};
 use std::alloc::Global;
 use std::sync::Wait;
@@ -82,7 +83,10 @@ impl<B: Naming, M: Mailbox> Peer<B, M> {
     ) -> Result<(), AnswerError>
         ensures { GoesOn M.outbox_of view.now to.now bytes.now self.old result self.new }
     {
-        self.own.tally().count_unicast();
+        self.own.tally().add(Counts {
+            unicasts: 1,
+            ..Counts::none()
+        });
         let number = Some(self.pass.connection());
         context.bus.show(context.rt, context.alloc, number, bytes);
         match view.kind() {

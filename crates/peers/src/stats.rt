@@ -2,7 +2,7 @@
 
 ghost use Rattle.std.specs.Prelude.{◌≡◌};
 ghost use Rattle.peers.specs.Answers.{NeverSlow};
-ghost use Rattle.peers.specs.Stats.{AnswersInsight, AnswersInsightLater, IsInsight};
+ghost use Rattle.peers.specs.Stats.{AreFacts, AreTextLists, AnswersInsight, AnswersInsightLater};
 
 use crate::context::Context;
 use crate::error::AnswerError;
@@ -26,28 +26,30 @@ struct Stats {
     counts: Counts,
 }
 
-/// A number as it is told: one that is too great is the greatest.
-fn told(number: u64) -> Fact<'static> {
-    Fact::Number(u32::try_from(number).unwrap_or(u32::MAX))
-}
-
-fn named<'a>(name: &'a str, fact: Fact<'a>) -> NamedFact<'a> {
-    NamedFact { name, fact }
+/// A number under a name, as a fact of 32 bits: one that is too great is the greatest.
+fn number_fact(name: &'static str, number: u64) -> NamedFact<'static> {
+    let number = u32::try_from(number).unwrap_or(u32::MAX);
+    NamedFact {
+        name,
+        fact: Fact::Number(number),
+    }
 }
 
 impl Stats {
-    /// The facts of both calls, of which the first one is told by the caller.
-    fn facts<'a>(&self, first: NamedFact<'a>) -> [NamedFact<'a>; 9] {
+    /// The facts of both calls, after the first one, which each has for itself.
+    fn facts<'a>(&self, first: NamedFact<'a>) -> [NamedFact<'a>; 11] {
         [
             first,
-            named("MatchRules", told(self.rules as u64)),
-            named("BusNames", told(self.names as u64)),
-            named("OutgoingMessages", told(self.waiting.messages as u64)),
-            named("OutgoingBytes", told(self.waiting.bytes as u64)),
-            named("Broadcasts", told(self.counts.broadcasts)),
-            named("Recipients", told(self.counts.recipients)),
-            named("RefusedPuts", told(self.counts.refused)),
-            named("Unicasts", told(self.counts.unicasts)),
+            number_fact("MatchRules", self.rules as u64),
+            number_fact("BusNames", self.names as u64),
+            number_fact("OutgoingMessages", self.waiting.messages as u64),
+            number_fact("OutgoingBytes", self.waiting.bytes as u64),
+            number_fact("Broadcasts", self.counts.broadcasts),
+            number_fact("Recipients", self.counts.recipients),
+            number_fact("RefusedPuts", self.counts.refused),
+            number_fact("ProgramsRun", self.counts.programs),
+            number_fact("ProgramSteps", self.counts.steps),
+            number_fact("Unicasts", self.counts.unicasts),
         ]
     }
 }
@@ -58,7 +60,7 @@ fn stats_of_all<B: Naming, M: Mailbox, W: Wait, R: Wait + Drop>(
     alloc: Global,
     bus: &Bus<B, M, R>,
 ) -> Result<(usize, Stats), AllocError> {
-    let mut counts = bus.gone().counts();
+    let mut counts = bus.tally_of_gone().counts();
     let mut waiting = Room {
         messages: 0,
         bytes: 0,
@@ -165,12 +167,12 @@ impl<B: Naming, M: Mailbox> Peer<B, M> {
         context: &Context<'_, B, M, W, R>,
         request: Request,
     ) -> Result<(), AnswerError>
-        ensures row { AnswersInsight request self.old result self.new }
+        ensures row { AnswersInsight AreFacts request self.old result self.new }
         ensures error { NeverSlow request.wants_answer result }
     {
         match self.look_at_all(context) {
             Ok((clients, stats)) => {
-                let facts = stats.facts(named("ActiveConnections", told(clients as u64)));
+                let facts = stats.facts(number_fact("ActiveConnections", clients as u64));
                 self.answer(context, request, Body::Facts(&facts))
             }
             Err(why) => self.refuse(context, request, why),
@@ -191,7 +193,7 @@ impl<B: Naming, M: Mailbox> Peer<B, M> {
         request: Request,
         name: &str,
     ) -> Result<(), AnswerError>
-        ensures row { AnswersInsightLater request self.old result self.new }
+        ensures row { AnswersInsightLater AreFacts request self.old result self.new }
         ensures error { NeverSlow request.wants_answer result }
     {
         let owner = self.owner_named(name);
@@ -204,13 +206,16 @@ impl<B: Naming, M: Mailbox> Peer<B, M> {
         request: Request,
         owner: Result<Option<Owner>, Refused>,
     ) -> Result<(), AnswerError>
-        ensures row { AnswersInsight request self.old result self.new }
+        ensures row { AnswersInsight AreFacts request self.old result self.new }
         ensures error { NeverSlow request.wants_answer result }
     {
         match self.look_at(context, owner) {
             Ok((number, stats)) => {
                 let name = UniqueName::new(number);
-                let facts = stats.facts(named("UniqueName", Fact::Text(name.as_str())));
+                let facts = stats.facts(NamedFact {
+                    name: "UniqueName",
+                    fact: Fact::Text(name.as_str()),
+                });
                 self.answer(context, request, Body::Facts(&facts))
             }
             Err(why) => self.refuse(context, request, why),
@@ -239,7 +244,7 @@ impl<B: Naming, M: Mailbox> Peer<B, M> {
         context: &Context<'_, B, M, W, R>,
         request: Request,
     ) -> Result<(), AnswerError>
-        ensures row { AnswersInsight request self.old result self.new }
+        ensures row { AnswersInsight AreTextLists request self.old result self.new }
         ensures error { NeverSlow request.wants_answer result }
     {
         match self.look_at_rules(context) {

@@ -111,7 +111,7 @@ impl<B: Naming, M: Mailbox, R: Wait + Drop> Bus<B, M, R> {
     }
 
     /// What those have sent who have left the bus.
-    pub fn gone(&self) -> &Tally {
+    pub fn tally_of_gone(&self) -> &Tally {
         &self.gone
     }
 

@@ -7,8 +7,8 @@ use Rattle.std.specs.List.{flat_map}
 abbrev pub escape_of : ℕ → List ℕ
 escape_of byte = if byte == 39 then codes "'\\''" else byte ∷ []
 
-abbrev pub escaped : List ℕ → List ℕ
-escaped value = flat_map escape_of value
+abbrev pub escaped_text : List ℕ → List ℕ
+escaped_text value = flat_map escape_of value
 
-abbrev pub quoted : List ℕ → List ℕ
-quoted value = codes "'" ++ escaped value ++ codes "'"
+abbrev pub quoted_text : List ℕ → List ℕ
+quoted_text value = codes "'" ++ escaped_text value ++ codes "'"

@@ -5,10 +5,10 @@ use Rattle.match_rule.specs.declared.condition.Condition.{Condition}
 use Rattle.match_rule.specs.Condition.{key_of, value_of}
 use Rattle.match_rule.specs.RuleTree.{RuleTree}
 use Rattle.rule_text.specs.Keys.{key_text}
-use Rattle.rule_text.specs.Quoting.{quoted}
+use Rattle.rule_text.specs.Quoting.{quoted_text}
 
 abbrev pub condition_text : Condition → List ℕ
-condition_text c = key_text (key_of c) ++ codes "=" ++ quoted (value_of c)
+condition_text c = key_text (key_of c) ++ codes "=" ++ quoted_text (value_of c)
 
 -- each condition after a comma
 abbrev pub more_text : List Condition → List ℕ

@@ -10,7 +10,7 @@ entries-init g c = record {
   view = refl;
   owned = refl;
   noted = λ k n stands marked. absurd (none_marked 4096 k (sym (ap (λ (ms : List Bool). slice_get ms k) c.requires.none_marked) ∙ marked));
-  so_far = marks_begin c.args.state.now c.args.piece.part c.args.piece.of c.args.programs.view.now c.args.programs.owned.now (c.args.first.now ∷ c.args.others.now) 4096 c.args.programs.tally.runs c.args.marks.now.places c.requires.none_marked c.requires.none_run;
+  so_far = marks_begin c.args.state.now c.args.piece.part c.args.piece.of c.args.programs.view.now c.args.programs.owned.now (c.args.first.now ∷ c.args.others.now) 4096 c.args.programs.cost.runs c.args.marks.now.places c.requires.none_marked c.requires.none_run;
 }
 
 pub consider_with_edition_two-requires-clause-few : goal.consider_with_edition_two-requires-clause-few
@@ -31,8 +31,8 @@ pub entries-preserved : goal.entries-preserved
 entries-preserved g c =
     let before = c.entries.invariant in
     let considered = rw (c.if-consider.false, before.view, before.owned) at c.consider.ensures.considered in
-    let so_far : AreMarkedSoFar c.args.state.now c.args.piece.part c.args.piece.of c.args.programs.view.now c.args.programs.owned.now (c.args.first.now ∷ c.args.others.now) c.entries.others c.consider.new.marks.places c.consider.new.programs.tally.runs =
-    marks_more c.args.state.now c.args.piece.part c.args.piece.of c.args.programs.view.now c.args.programs.owned.now (c.args.first.now ∷ c.args.others.now) c.entries.others c.entries.entry.now c.entries.marks.places c.consider.new.marks.places c.entries.programs.tally.runs c.consider.new.programs.tally.runs before.so_far considered in
+    let so_far : AreMarkedSoFar c.args.state.now c.args.piece.part c.args.piece.of c.args.programs.view.now c.args.programs.owned.now (c.args.first.now ∷ c.args.others.now) c.entries.others c.consider.new.marks.places c.consider.new.programs.cost.runs =
+    marks_more c.args.state.now c.args.piece.part c.args.piece.of c.args.programs.view.now c.args.programs.owned.now (c.args.first.now ∷ c.args.others.now) c.entries.others c.entries.entry.now c.entries.marks.places c.consider.new.marks.places c.entries.programs.cost.runs c.consider.new.programs.cost.runs before.so_far considered in
     record {
       view = c.consider.ensures.view ∙ before.view;
       owned = c.consider.ensures.owned ∙ before.owned;
@@ -44,6 +44,6 @@ pub returns-in-None : goal.returns-in-None
 returns-in-None g c =
     let before = c.entries.invariant in
     let considered = rw (c.if-consider.false, before.view, before.owned) at c.consider.ensures.considered in
-    let so_far : AreMarkedSoFar c.args.state.now c.args.piece.part c.args.piece.of c.args.programs.view.now c.args.programs.owned.now (c.args.first.now ∷ c.args.others.now) c.entries.others c.consider.new.marks.places c.consider.new.programs.tally.runs =
-    marks_more c.args.state.now c.args.piece.part c.args.piece.of c.args.programs.view.now c.args.programs.owned.now (c.args.first.now ∷ c.args.others.now) c.entries.others c.entries.entry.now c.entries.marks.places c.consider.new.marks.places c.entries.programs.tally.runs c.consider.new.programs.tally.runs before.so_far considered in
-    record { marked = rw c.runs.ensures (rw c.in-None.ensures.steps.0 at so_far) }
+    let so_far : AreMarkedSoFar c.args.state.now c.args.piece.part c.args.piece.of c.args.programs.view.now c.args.programs.owned.now (c.args.first.now ∷ c.args.others.now) c.entries.others c.consider.new.marks.places c.consider.new.programs.cost.runs =
+    marks_more c.args.state.now c.args.piece.part c.args.piece.of c.args.programs.view.now c.args.programs.owned.now (c.args.first.now ∷ c.args.others.now) c.entries.others c.entries.entry.now c.entries.marks.places c.consider.new.marks.places c.entries.programs.cost.runs c.consider.new.programs.cost.runs before.so_far considered in
+    record { marked = rw c.cost.ensures (rw c.in-None.ensures.steps.0 at so_far) }

@@ -20,4 +20,4 @@ returns-clause-exact g c m valid =
     let marked = rw (c.new-programs.ensures.view, c.new-programs.ensures.owned) at c.consider_all.ensures.marked in
     recipients_marked s c.args.sender m c.args.view.now c.slots_of-owned.result c.args.piece.part c.args.piece.of all c.consider_all.new.marks.places
     c.requires.state c.slots_of-owned.ensures valid c.ends_in_one_way.ensures c.offered_where_it_holds.ensures (c.requires.offers m valid)
-    (λ decided. marks_end s c.args.piece.part c.args.piece.of c.args.view.now c.slots_of-owned.result all c.consider_all.result c.consider_all.new.marks.places c.args.sender m valid decided marked)
+    (λ decided. marks_end s c.args.piece.part c.args.piece.of c.args.view.now c.slots_of-owned.result all c.consider_all.result.runs c.consider_all.new.marks.places c.args.sender m valid decided marked)

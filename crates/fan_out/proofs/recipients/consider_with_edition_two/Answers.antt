@@ -36,10 +36,10 @@ entries-preserved g c =
       view = c.consider_over_edition_two.ensures.view ∙ before.view;
       owned = c.consider_over_edition_two.ensures.owned ∙ before.owned;
       noted = c.consider_over_edition_two.ensures.noted;
-      few = omega (arith, before.few, ap (λ (es : List Entry). length es) c.in-Some.ensures.steps, considers_few c.args.state.now c.args.piece.part c.args.piece.of c.args.programs.view.now c.args.programs.owned.now c.entries.entry.now c.entries.marks.places c.consider_over_edition_two.new.marks.places c.entries.programs.tally.runs c.consider_over_edition_two.new.programs.tally.runs considered);
+      few = omega (arith, before.few, ap (λ (es : List Entry). length es) c.in-Some.ensures.steps, considers_few c.args.state.now c.args.piece.part c.args.piece.of c.args.programs.view.now c.args.programs.owned.now c.entries.entry.now c.entries.marks.places c.consider_over_edition_two.new.marks.places c.entries.programs.cost.runs c.consider_over_edition_two.new.programs.cost.runs considered);
       rest = λ e there. before.rest e (contains_later c.entries.entry.now e c.entries.others (rw c.in-Some.ensures.steps there));
       marked = λ all so_far.
-          let later : AreMarkedSoFar c.args.state.now c.args.piece.part c.args.piece.of c.args.programs.view.now c.args.programs.owned.now all c.entries.others c.consider_over_edition_two.new.marks.places c.consider_over_edition_two.new.programs.tally.runs = marks_more c.args.state.now c.args.piece.part c.args.piece.of c.args.programs.view.now c.args.programs.owned.now all c.entries.others c.entries.entry.now c.entries.marks.places c.consider_over_edition_two.new.marks.places c.entries.programs.tally.runs c.consider_over_edition_two.new.programs.tally.runs (before.marked all so_far) considered in
+          let later : AreMarkedSoFar c.args.state.now c.args.piece.part c.args.piece.of c.args.programs.view.now c.args.programs.owned.now all c.entries.others c.consider_over_edition_two.new.marks.places c.consider_over_edition_two.new.programs.cost.runs = marks_more c.args.state.now c.args.piece.part c.args.piece.of c.args.programs.view.now c.args.programs.owned.now all c.entries.others c.entries.entry.now c.entries.marks.places c.consider_over_edition_two.new.marks.places c.entries.programs.cost.runs c.consider_over_edition_two.new.programs.cost.runs (before.marked all so_far) considered in
           rw c.in-Some.ensures.steps at later;
     }
 
@@ -49,6 +49,6 @@ returns-in-None g c =
     let considered = rw (c.if-consider_over_edition_two.false, before.view, before.owned) at c.consider_over_edition_two.ensures.considered in
     record {
       marked = λ all so_far.
-          let later : AreMarkedSoFar c.args.state.now c.args.piece.part c.args.piece.of c.args.programs.view.now c.args.programs.owned.now all c.entries.others c.consider_over_edition_two.new.marks.places c.consider_over_edition_two.new.programs.tally.runs = marks_more c.args.state.now c.args.piece.part c.args.piece.of c.args.programs.view.now c.args.programs.owned.now all c.entries.others c.entries.entry.now c.entries.marks.places c.consider_over_edition_two.new.marks.places c.entries.programs.tally.runs c.consider_over_edition_two.new.programs.tally.runs (before.marked all so_far) considered in
-          rw c.runs.ensures (rw c.in-None.ensures.steps.0 at later);
+          let later : AreMarkedSoFar c.args.state.now c.args.piece.part c.args.piece.of c.args.programs.view.now c.args.programs.owned.now all c.entries.others c.consider_over_edition_two.new.marks.places c.consider_over_edition_two.new.programs.cost.runs = marks_more c.args.state.now c.args.piece.part c.args.piece.of c.args.programs.view.now c.args.programs.owned.now all c.entries.others c.entries.entry.now c.entries.marks.places c.consider_over_edition_two.new.marks.places c.entries.programs.cost.runs c.consider_over_edition_two.new.programs.cost.runs (before.marked all so_far) considered in
+          rw c.cost.ensures (rw c.in-None.ensures.steps.0 at later);
     }

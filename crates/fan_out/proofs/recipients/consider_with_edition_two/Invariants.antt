@@ -10,11 +10,11 @@ invariant-entries g l = record {
   view : l.programs.view.now ≡ l.fn.programs.view.now;
   owned : l.programs.owned.now ≡ l.fn.programs.owned.now;
   noted : AreNoted (numbers_of l.state.connections) l.marks.places l.marks.remainders;
-  few : l.programs.tally.runs + length l.others ≤ l.fn.programs.tally.runs + length l.initial.others;
+  few : l.programs.cost.runs + length l.others ≤ l.fn.programs.cost.runs + length l.initial.others;
   rest : (e : Entry) → Contains (l.entry ∷ l.others) e → Contains (l.first ∷ l.initial.others) e;
   marked : (all : List Entry)
-      → AreMarkedSoFar l.state l.piece.part l.piece.of l.fn.programs.view.now l.fn.programs.owned.now all (l.first ∷ l.initial.others) l.fn.marks.places l.fn.programs.tally.runs
-      → AreMarkedSoFar l.state l.piece.part l.piece.of l.fn.programs.view.now l.fn.programs.owned.now all (l.entry ∷ l.others) l.marks.places l.programs.tally.runs;
+      → AreMarkedSoFar l.state l.piece.part l.piece.of l.fn.programs.view.now l.fn.programs.owned.now all (l.first ∷ l.initial.others) l.fn.marks.places l.fn.programs.cost.runs
+      → AreMarkedSoFar l.state l.piece.part l.piece.of l.fn.programs.view.now l.fn.programs.owned.now all (l.entry ∷ l.others) l.marks.places l.programs.cost.runs;
 }
 
 abbrev pub decreases-entries : goal.decreases-entries

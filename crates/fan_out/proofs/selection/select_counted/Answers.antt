@@ -2,4 +2,4 @@ use Rattle.fan_out.proofs.Finding.{whole_listed}
 use Rattle.fan_out.proofs.selection.select_counted.Goals as goal
 
 pub returns-clause-recipients : goal.returns-clause-recipients
-returns-clause-recipients g c m valid = whole_listed c.args.state.now c.args.sender m c.list_recipients-runs.new.recipients.items (c.list_recipients-runs.ensures.exact m valid)
+returns-clause-recipients g c m valid = whole_listed c.args.state.now c.args.sender m c.list_recipients-cost.new.recipients.items (c.list_recipients-cost.ensures.exact m valid)

@@ -1,3 +1,5 @@
+// What it costs to find the recipients of a message.
+
 ghost use Rattle.std.specs.Prelude.{◌≡◌, ◌+◌, ◌<◌, ℕ, List, MatchOption};
 ghost use Rattle.bpf_code.specs.Steps.{Ends};
 ghost use Rattle.program_table.specs.Answers.{max_entries};
@@ -6,17 +8,29 @@ use bpf_machine::{constant_verdict, run};
 use bpf_verify::Verified;
 use summary::Image;
 
-/// Runs programs, and counts how many.
-#[derive(Drop)]
-pub(crate) struct Tally {
-    pub(crate) runs: u32,
+/// What it cost to find the recipients of a message: how many programs were run, and how many instructions they performed
+/// together. Contracts don't see the instructions.
+#[derive(Clone, Copy, Debug, PartialEq, Eq)]
+pub struct Cost {
+    pub runs: u32,
+    pub steps: u64,
 }
 
-impl Tally {
-    pub(crate) fn new() -> Tally
+impl Cost {
+    /// No program was run.
+    pub(crate) fn none() -> Cost
         ensures { result.runs ≡ 0 }
     {
-        Tally { runs: 0 }
+        Cost { runs: 0, steps: 0 }
+    }
+
+    /// Counts a run of this many steps.
+    fn count(&mut self, steps: u32)
+        requires { self.old.runs < max_entries }
+        ensures { self.new.runs ≡ self.old.runs + 1 }
+    {
+        self.runs += 1;
+        self.steps = self.steps.wrapping_add(u64::from(steps));
     }
 
     /// Runs a program over an image, and gives its verdict.
@@ -25,8 +39,9 @@ impl Tally {
         ensures counted { self.new.runs ≡ self.old.runs + 1 }
         ensures ends { (steps : ℕ) × Ends program.now image.now result steps }
     {
-        self.runs += 1;
-        run(program, image).verdict
+        let outcome = run(program, image);
+        self.count(outcome.steps);
+        outcome.verdict
     }
 
     /// Runs a program that returns a constant at once, over whatever image, and gives its verdict. Another program isn't
@@ -36,7 +51,7 @@ impl Tally {
         ensures { MatchOption result (self.new ≡ self.old) (λ verdict. (self.new.runs ≡ self.old.runs + 1) × ((image : List ℕ) → (steps : ℕ) × Ends program.now image verdict steps)) }
     {
         let verdict = constant_verdict(program)?;
-        self.runs += 1;
+        self.count(1);
         Some(verdict)
     }
 }
