@@ -324,7 +324,7 @@ def counts_of_the_bus(bus):
     return seen + [ask("GetConnectionStats", "s", (name,)) for name in ("com.example.Nobody", BUS)] + [ask("GetStats", path="/a")]
 
 
-@row("wire", [[3, 2, 0, 2], [3, 2, 0, 2]], ours_alone=True)
+@row("wire", [[3, 2, 0, 2, 2, 2], [3, 2, 0, 2, 2, 2]], ours_alone=True)
 def counts_of_what_was_sent(bus):
     one, two = bus.connect(), bus.connect()
     one.call("AddMatch", "s", ("member='c'",))
@@ -335,7 +335,7 @@ def counts_of_what_was_sent(bus):
     one.send(wire.SIGNAL, 0, path="/a", interface="a.b", member="x", destination=two.name)
     one.send(wire.METHOD_CALL, wire.NO_REPLY_EXPECTED, path="/a", interface="a.b", member="x", destination=two.name)
     one.call("Ping", interface="org.freedesktop.DBus.Peer")
-    numbers = lambda facts: [facts[name][1] for name in ("Broadcasts", "Recipients", "RefusedPuts", "Unicasts")]
+    numbers = lambda facts: [facts[name][1] for name in ("Broadcasts", "Recipients", "RefusedPuts", "ProgramsRun", "ProgramSteps", "Unicasts")]
     seen = [numbers(two.call("GetConnectionStats", "s", (one.name,), interface=STATS)[0])]
     one.close()
     wait_until(lambda: not two.call("NameHasOwner", "s", (one.name,))[0])
