@@ -1,6 +1,6 @@
 // Outboxes, as threads share them.
 
-ghost use Rattle.std.specs.Prelude.{◌≡◌, ◌⊎◌, ℕ, true, IsTrue, IfOk, IsErr, MatchOption, MatchResult};
+ghost use Rattle.std.specs.Prelude.{◌≡◌, ◌⊎◌, ℕ, true, IsTrue, IfOk, OnOk, IsErr, MatchOption, MatchResult};
 ghost use Rattle.outbox.specs.Counts.{InOrder};
 ghost use Rattle.outbox.specs.Views.{blank, Follows, after_put, after_taken};
 ghost use Rattle.outbox.specs.Seated.{Seated};
@@ -103,6 +103,7 @@ impl Outbox {
             (λ _. seat.new.view ≡ after_put seat.old.view item)
             (λ back. (back ≡ item) × (seat.new.view ≡ seat.old.view) × (seat.new.knows_shut ≡ true)) }
         ensures shut { seat.old.knows_shut ≡ true → IsErr result × (seat.new.knows_shut ≡ true) }
+        ensures open { OnOk result (seat.new.knows_shut ≡ seat.old.knows_shut) }
     {
         let inner: &Inner = &self.inner;
         if inner.word.shared.load::<Look>(&mut seat.word, 0) == 1 {
