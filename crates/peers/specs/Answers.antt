@@ -13,16 +13,22 @@ use Rattle.bus_messages.specs.declared.body.Body.TheVariants.{Nothing}
 use Rattle.bus_messages.specs.declared.error_name.ErrorName.{ErrorName}
 use Rattle.bus_messages.specs.declared.error_name.ErrorName.TheVariants as names
 use Rattle.peers.specs.declared.error.AnswerError.{AnswerError}
-use Rattle.peers.specs.declared.error.AnswerError.TheVariants.{NoMemory}
+use Rattle.peers.specs.declared.error.AnswerError.TheVariants.{NoMemory, Slow}
 use Rattle.peers.specs.declared.request.Request.{Request}
 use Rattle.peers.specs.declared.refused.Refused.{Refused}
 use Rattle.peers.specs.declared.refused.Refused.TheVariants.{Error, Ended}
-use Rattle.peers.specs.PeerState.{PeerState, name_of}
+use Rattle.peers.specs.PeerState.{OwnState, PeerState, name_of}
 use Rattle.peers.specs.Serials.{serial_after}
 
--- Only want of memory ends a call whose caller waits for no answer: no room is needed for one.
-abbrev pub NeverSlow : {A : Type 0} → Bool → Result A AnswerError → Type 0
-NeverSlow wants_answer result = wants_answer ≡ false → IfErr result (λ error. error ≡ NoMemory)
+-- what is known of an outbox after a put that ended so: one for which there is no room shuts it
+abbrev pub after_refusal : AnswerError → OwnState → OwnState
+after_refusal Slow own = record own { knows_shut = true }
+after_refusal _ own = own
+
+-- that there is no room is said only of an outbox that is known to be shut
+abbrev pub IsShutIf : AnswerError → OwnState → Type 0
+IsShutIf Slow own = own.knows_shut ≡ true
+IsShutIf _ own = Unit {0}
 
 -- the answer to a call, with this serial and to this name
 unfoldable pub reply_with : ℕ → List ℕ → Request → Body → Asked
@@ -50,10 +56,18 @@ abbrev pub IsEither : Asked → Asked → List ℕ → Type 0
 IsEither asked other bytes = AreAsked asked bytes ⊎ AreAsked other bytes
 
 module _ {M : Type 0} where
+  -- a session ends for want of room only where the client's outbox is known to be shut
+  abbrev pub SlowIfShut : {A : Type 0} → Result A AnswerError → PeerState M → Type 0
+  SlowIfShut result w = IfErr result (λ error. IsShutIf error w.own)
+
+  -- The same of a call; and only want of memory ends one whose caller waits for no answer: no room is needed for one.
+  abbrev pub UnlessShut : {A : Type 0} → Bool → Result A AnswerError → PeerState M → Type 0
+  UnlessShut wants_answer result w = (wants_answer ≡ false → IfErr result (λ error. error ≡ NoMemory)) × SlowIfShut result w
+
   -- One message more was put to the client, whose bytes are so; or nothing was put.
   abbrev pub IsPut : (List ℕ → Type 0) → PeerState M → Result (Unit {0}) AnswerError → PeerState M → Type 0
-  IsPut P v (Ok _) w = (item : Item) × (item.mark ≡ None) × P item.bytes × (w ≡ record v { answers = v.answers ++ item ∷ [] })
-  IsPut P v (Err error) w = w ≡ v
+  IsPut P v (Ok _) w = (item : Item) × (item.mark ≡ None) × P item.bytes × (w ≡ record v { own = record v.own { put = v.own.put ++ item ∷ [] } })
+  IsPut P v (Err error) w = w ≡ record v { own = after_refusal error v.own }
 
   -- one serial is used for a message of the bus
   abbrev pub after_serial : PeerState M → PeerState M

@@ -1,16 +1,21 @@
 -- What clauses see of a client on the bus (own).
-use Rattle.std.specs.Prelude.{ℕ, List}
+use Rattle.std.specs.Prelude.{ℕ, Bool, List}
 use Rattle.outbox.specs.Items.{Item}
 use Rattle.unique_name.specs.UniqueNames.{unique_name}
 use Rattle.router.specs.Passes.{PassState}
 use Rattle.peers.specs.declared.identity.Identity.{Identity}
 use Rattle.peers.specs.Holdings.{HoldingsState}
 
--- what its pass has seen and done; the messages that the bus put to the client itself, in order; the serial of the next
--- message that the bus makes for it; what it is told of the bus; and what it has taken of the bus
+-- the messages that the bus put to the client itself, in order, and whether the client's outbox is known to be shut
+pub record OwnState : Type 0 where
+  pub put : List Item
+  pub knows_shut : Bool
+
+-- what its pass has seen and done; what the bus knows of the client's own outbox; the serial of the next message that the
+-- bus makes for it; what it is told of the bus; and what it has taken of the bus
 pub record PeerState (M : Type 0) : Type 0 where
   pub pass : PassState M
-  pub answers : List Item
+  pub own : OwnState
   pub serial : ℕ
   pub identity : Identity
   pub holdings : HoldingsState

@@ -3,7 +3,7 @@
 ghost use Rattle.std.specs.Prelude.{◌≡◌, ◌∷◌, [], Some, IfOk, option_map};
 ghost use Rattle.signature.specs.Name.{bus_name};
 ghost use Rattle.bus_messages.specs.Sent.{error_asked};
-ghost use Rattle.peers.specs.Answers.{IsRefused, IsPut, IsEither, NeverSlow, fault_with};
+ghost use Rattle.peers.specs.Answers.{IsRefused, IsPut, IsEither, SlowIfShut, UnlessShut, fault_with};
 ghost use Rattle.peers.specs.LentTexts.{lent_texts};
 ghost use Rattle.peers.specs.PeerState.{name_of};
 ghost use Rattle.peers.specs.Queries.{RepliesText, RepliesTexts};
@@ -33,7 +33,7 @@ impl<B: Naming, M: Mailbox> Peer<B, M> {
         body: Body<'_>,
     ) -> Result<(), AnswerError>
         ensures answer { Replies request body.entry self.old result self.new }
-        ensures error { NeverSlow request.wants_answer result }
+        ensures error { UnlessShut request.wants_answer result self.new }
     {
         if !request.wants_answer {
             return Ok(());
@@ -58,7 +58,7 @@ impl<B: Naming, M: Mailbox> Peer<B, M> {
         why: Refused,
     ) -> Result<(), AnswerError>
         ensures answer { IsRefused request why self.old result self.new }
-        ensures error { NeverSlow request.wants_answer result }
+        ensures error { UnlessShut request.wants_answer result self.new }
     {
         let Refused::Error(name) = why else {
             return Err(AnswerError::NoMemory);
@@ -82,7 +82,7 @@ impl<B: Naming, M: Mailbox> Peer<B, M> {
         text: &str,
     ) -> Result<(), AnswerError>
         ensures answer { RepliesText request text.now self.old result self.new }
-        ensures error { NeverSlow request.wants_answer result }
+        ensures error { UnlessShut request.wants_answer result self.new }
     {
         self.answer(context, request, Body::Text(text))
     }
@@ -99,7 +99,7 @@ impl<B: Naming, M: Mailbox> Peer<B, M> {
         texts: &[&str],
     ) -> Result<(), AnswerError>
         ensures answer { RepliesTexts request (lent_texts texts.now) self.old result self.new }
-        ensures error { NeverSlow request.wants_answer result }
+        ensures error { UnlessShut request.wants_answer result self.new }
     {
         self.answer(context, request, Body::Texts(texts))
     }
@@ -115,7 +115,7 @@ impl<B: Naming, M: Mailbox> Peer<B, M> {
         request: Request,
     ) -> Result<(), AnswerError>
         ensures answer { RepliesTexts request (bus_name ∷ []) self.old result self.new }
-        ensures error { NeverSlow request.wants_answer result }
+        ensures error { UnlessShut request.wants_answer result self.new }
     {
         self.answer_texts(context, request, [BUS_NAME].as_slice())
     }
@@ -128,7 +128,8 @@ impl<B: Naming, M: Mailbox> Peer<B, M> {
         serial: u32,
         name: ErrorName,
     ) -> Result<(), AnswerError>
-        ensures { IsPut (IsEither (fault_with serial (name_of self.old) request name) (fault_with serial (name_of self.old) request ErrorName.NoMemory)) self.old result self.new }
+        ensures put { IsPut (IsEither (fault_with serial (name_of self.old) request name) (fault_with serial (name_of self.old) request ErrorName.NoMemory)) self.old result self.new }
+        ensures slow { SlowIfShut result self.new }
     {
         let to = Some(self.name.as_str());
         let bytes = error_bytes(context.alloc, serial, to, request, name)?;
@@ -141,7 +142,8 @@ impl<B: Naming, M: Mailbox> Peer<B, M> {
         context: &Context<'_, B, M, W, R>,
         bytes: Bytes,
     ) -> Result<(), AnswerError>
-        ensures { IsPut (λ put. put ≡ bytes) self.old result self.new }
+        ensures put { IsPut (λ put. put ≡ bytes) self.old result self.new }
+        ensures slow { SlowIfShut result self.new }
     {
         context.bus.show(context.rt, context.alloc, None, &bytes);
         match self.pass.message(context.alloc, bytes) {

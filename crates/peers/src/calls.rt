@@ -1,6 +1,7 @@
 // Calls that clients make of one another, and their replies.
 
 ghost use Rattle.std.specs.Prelude.{◌≡◌};
+ghost use Rattle.peers.specs.Answers.{SlowIfShut};
 ghost use Rattle.peers.specs.Calling.{SendsCall, SendsReply, AnswersCallers, AnswersCaller};
 
 use crate::context::Context;
@@ -27,7 +28,8 @@ impl<B: Naming, M: Mailbox> Peer<B, M> {
         to: &str,
         bytes: &Bytes,
     ) -> Result<(), AnswerError>
-        ensures { SendsCall M.outbox_of view.now to.now bytes.now self.old result self.new }
+        ensures outcome { SendsCall M.outbox_of view.now to.now bytes.now self.old result self.new }
+        ensures slow { SlowIfShut result self.new }
     {
         let request = Request::of(view);
         if !request.wants_answer {
@@ -66,7 +68,8 @@ impl<B: Naming, M: Mailbox> Peer<B, M> {
         to: &str,
         bytes: &Bytes,
     ) -> Result<(), AnswerError>
-        ensures { SendsReply M.outbox_of view.now to.now bytes.now self.old result self.new }
+        ensures outcome { SendsReply M.outbox_of view.now to.now bytes.now self.old result self.new }
+        ensures slow { SlowIfShut result self.new }
     {
         let Some(call) = self.call_answered(view, to) else {
             return Ok(());

@@ -3,6 +3,7 @@
 ghost use Rattle.std.specs.Prelude.{◌≡◌};
 ghost use Rattle.message_view.specs.Message.{Message};
 ghost use Rattle.message_view.specs.Valid.{Valid};
+ghost use Rattle.peers.specs.Answers.{SlowIfShut};
 ghost use Rattle.peers.specs.Handling.{CallsBus, HandledAs, Handles, is_for_bus, is_known, is_signal};
 
 use crate::context::Context;
@@ -54,7 +55,8 @@ impl<B: Naming, M: Mailbox> Peer<B, M> {
         lists: &mut RouteLists,
         view: &View<'_>,
     ) -> Result<(), AnswerError>
-        ensures { Handles M.outbox_of context.now.shares view.now self.old result self.new }
+        ensures handled { Handles M.outbox_of context.now.shares view.now self.old result self.new }
+        ensures slow { SlowIfShut result self.new }
     {
         if self.pass.is_closed() {
             return Err(AnswerError::Monitor);
@@ -69,7 +71,8 @@ impl<B: Naming, M: Mailbox> Peer<B, M> {
         lists: &mut RouteLists,
         view: &View<'_>,
     ) -> Result<(), AnswerError>
-        ensures { (m : Message) → Valid view.now m → HandledAs M.outbox_of context.now.shares view.now m (is_for_bus m) self.old result self.new }
+        ensures handled { (m : Message) → Valid view.now m → HandledAs M.outbox_of context.now.shares view.now m (is_for_bus m) self.old result self.new }
+        ensures slow { SlowIfShut result self.new }
     {
         if is_for_bus(view) {
             return self.call_bus(context, lists, view);
@@ -87,7 +90,8 @@ impl<B: Naming, M: Mailbox> Peer<B, M> {
         lists: &mut RouteLists,
         view: &View<'_>,
     ) -> Result<(), AnswerError>
-        ensures { (m : Message) → Valid view.now m → CallsBus M.outbox_of context.now.shares m self.old result self.new }
+        ensures handled { (m : Message) → Valid view.now m → CallsBus M.outbox_of context.now.shares m self.old result self.new }
+        ensures slow { SlowIfShut result self.new }
     {
         self.show(context, view);
         let request = Request::of(view);

@@ -1,7 +1,7 @@
 // How a client joins the bus, and what Hello is answered.
 
 ghost use Rattle.std.specs.Prelude.{◌≡◌, false, IsOk};
-ghost use Rattle.peers.specs.Answers.{NeverSlow};
+ghost use Rattle.peers.specs.Answers.{UnlessShut};
 ghost use Rattle.peers.specs.Arrival.{Joins, Registers};
 
 use crate::answers::error_bytes;
@@ -76,7 +76,7 @@ impl<B: Naming, M: Mailbox> Peer<B, M> {
         request: Request,
     ) -> Result<(), AnswerError>
         ensures registered { Registers M.outbox_of request self.old result self.new }
-        ensures error { NeverSlow request.wants_answer result }
+        ensures error { UnlessShut request.wants_answer result self.new }
     {
         let name = UniqueName::new(self.pass.connection());
         self.pass.hold(context.alloc);

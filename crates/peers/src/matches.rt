@@ -4,7 +4,7 @@ ghost use Rattle.std.specs.Prelude.{◌≡◌, false, vec_len};
 ghost use Rattle.router.specs.Calls.{Once, Answers};
 ghost use Rattle.router.specs.Readings.{AddsMatch, RemovesMatch, Attaches};
 ghost use Rattle.router.specs.Command.TheVariants.{Detach};
-ghost use Rattle.peers.specs.Answers.{NeverSlow};
+ghost use Rattle.peers.specs.Answers.{UnlessShut};
 ghost use Rattle.peers.specs.Holdings.{after_add, after_remove, after_attach, after_detach};
 ghost use Rattle.peers.specs.Rows.{Confirms, IsConfirmed, Numbers, NumbersEntry};
 ghost use Rattle.peers.specs.Shares.{WithinShare, WithinMemory, WithinAll, rule_limit, program_limit};
@@ -28,7 +28,7 @@ impl<B: Naming, M: Mailbox> Peer<B, M> {
         text: &str,
     ) -> Result<(), AnswerError>
         ensures row { WithinShare (rule_limit context.now.shares self.old.holdings) request (IsConfirmed request (λ asked pass. Once (λ before next. AddsMatch text.now self.old.pass before asked pass next)) after_add self.old result self.new) self.old result self.new }
-        ensures error { NeverSlow request.wants_answer result }
+        ensures error { UnlessShut request.wants_answer result self.new }
     {
         if let Some(limit) = self.holdings.rule_limit(context.shares) {
             return self.refuse(context, request, Refused::beyond(limit));
@@ -46,7 +46,7 @@ impl<B: Naming, M: Mailbox> Peer<B, M> {
         text: &str,
     ) -> Result<(), AnswerError>
         ensures row { IsConfirmed request (λ asked pass. Once (λ before next. RemovesMatch text.now self.old.pass before asked pass next)) after_remove self.old result self.new }
-        ensures error { NeverSlow request.wants_answer result }
+        ensures error { UnlessShut request.wants_answer result self.new }
     {
         let bus = context.bus;
         let removed = bus.remove_match(context.rt, context.alloc, &mut self.pass, text);
@@ -61,7 +61,7 @@ impl<B: Naming, M: Mailbox> Peer<B, M> {
         id: u32,
     ) -> Result<(), AnswerError>
         ensures row { IsConfirmed request (λ asked pass. Once (λ before next. Answers false self.old.pass before (Detach self.old.pass.connection id) asked pass next)) (after_detach id) self.old result self.new }
-        ensures error { NeverSlow request.wants_answer result }
+        ensures error { UnlessShut request.wants_answer result self.new }
     {
         let detached = context.bus.detach(context.rt, &mut self.pass, id);
         self.holdings.note_detach(id, &detached);
@@ -76,7 +76,7 @@ impl<B: Naming, M: Mailbox> Peer<B, M> {
         reply: Result<Reply, BusError>,
     ) -> Result<(), AnswerError>
         ensures row { Confirms request reply self.old result self.new }
-        ensures error { NeverSlow request.wants_answer result }
+        ensures error { UnlessShut request.wants_answer result self.new }
     {
         match reply {
             Ok(_) => self.answer(context, request, Body::Nothing),
@@ -92,7 +92,7 @@ impl<B: Naming, M: Mailbox> Peer<B, M> {
         program: Vec<Ins>,
     ) -> Result<(), AnswerError>
         ensures row { WithinShare (program_limit context.now.shares (vec_len program) self.old.holdings) request (WithinMemory request (WithinAll request (NumbersEntry request (λ asked pass. Once (λ before next. Attaches edition program.items self.old.pass before asked pass next)) (after_attach (vec_len program)) self.old result self.new) self.old result self.new) self.old result self.new) self.old result self.new }
-        ensures error { NeverSlow request.wants_answer result }
+        ensures error { UnlessShut request.wants_answer result self.new }
     {
         let len = program.len();
         if let Err(why) = self.holdings.admit_program(context.shares, len) {
@@ -112,7 +112,7 @@ impl<B: Naming, M: Mailbox> Peer<B, M> {
         reply: Result<Reply, BusError>,
     ) -> Result<(), AnswerError>
         ensures row { Numbers request reply self.old result self.new }
-        ensures error { NeverSlow request.wants_answer result }
+        ensures error { UnlessShut request.wants_answer result self.new }
     {
         match reply {
             Ok(Reply::Entry(id)) => self.answer(context, request, Body::Number(id)),

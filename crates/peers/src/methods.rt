@@ -3,7 +3,7 @@
 ghost use Rattle.std.specs.Prelude.{◌≡◌, map};
 ghost use Rattle.std.specs.Char.{to_ascii_lowercase};
 ghost use Rattle.bus_messages.specs.Introspection.{introspection_text};
-ghost use Rattle.peers.specs.Answers.{NeverSlow};
+ghost use Rattle.peers.specs.Answers.{UnlessShut};
 ghost use Rattle.peers.specs.Queries.{RepliesText, RepliesDigits, RepliesMachineId, bus_id, credentials_of, user_found};
 ghost use Rattle.peers.specs.Table.{Performs};
 
@@ -33,7 +33,7 @@ impl<B: Naming, M: Mailbox> Peer<B, M> {
         call: Call<'_>,
     ) -> Result<(), AnswerError>
         ensures row { Performs M.outbox_of context.now.shares request call.entry self.old result self.new }
-        ensures error { NeverSlow request.wants_answer result }
+        ensures error { UnlessShut request.wants_answer result self.new }
     {
         match call {
             Call::Hello => self.refuse(context, request, Refused::Error(ErrorName::Failed)),
@@ -103,7 +103,7 @@ impl<B: Naming, M: Mailbox> Peer<B, M> {
         request: Request,
     ) -> Result<(), AnswerError>
         ensures row { RepliesDigits request (bus_id self.old.identity) self.old result self.new }
-        ensures error { NeverSlow request.wants_answer result }
+        ensures error { UnlessShut request.wants_answer result self.new }
     {
         let id = in_small_letters(self.identity.guid);
         self.answer_digits(context, request, id)
@@ -115,7 +115,7 @@ impl<B: Naming, M: Mailbox> Peer<B, M> {
         request: Request,
     ) -> Result<(), AnswerError>
         ensures row { RepliesMachineId request self.old.identity.machine_id self.old result self.new }
-        ensures error { NeverSlow request.wants_answer result }
+        ensures error { UnlessShut request.wants_answer result self.new }
     {
         match self.identity.machine_id {
             Some(id) => self.answer_digits(context, request, id),
@@ -130,7 +130,7 @@ impl<B: Naming, M: Mailbox> Peer<B, M> {
         digits: [u8; 32],
     ) -> Result<(), AnswerError>
         ensures row { RepliesDigits request digits self.old result self.new }
-        ensures error { NeverSlow request.wants_answer result }
+        ensures error { UnlessShut request.wants_answer result self.new }
     {
         match str::from_utf8(&digits) {
             Ok(text) => self.answer_text(context, request, text),
@@ -144,7 +144,7 @@ impl<B: Naming, M: Mailbox> Peer<B, M> {
         request: Request,
     ) -> Result<(), AnswerError>
         ensures row { RepliesText request introspection_text self.old result self.new }
-        ensures error { NeverSlow request.wants_answer result }
+        ensures error { UnlessShut request.wants_answer result self.new }
     {
         match introspection(context.alloc) {
             Ok(text) => self.answer_text(context, request, text.as_str()),

@@ -5,7 +5,7 @@ ghost use Rattle.message_build.specs.Asked.{Asked};
 ghost use Rattle.message_build.specs.Building.{AreAsked};
 ghost use Rattle.bus_messages.specs.Sent.{Builds};
 ghost use Rattle.peers.specs.Announcements.{told_asked};
-ghost use Rattle.peers.specs.Answers.{IsPut, NeverSlow, after_serial};
+ghost use Rattle.peers.specs.Answers.{IsPut, UnlessShut, after_serial};
 ghost use Rattle.peers.specs.Monitoring.{BecomesMonitor, Watches, GoesUnder};
 ghost use Rattle.peers.specs.PeerState.{name_of};
 
@@ -57,7 +57,7 @@ impl<B: Naming, M: Mailbox> Peer<B, M> {
         flags: u32,
     ) -> Result<(), AnswerError>
         ensures row { BecomesMonitor M.outbox_of request self.old result self.new }
-        ensures error { NeverSlow request.wants_answer result }
+        ensures error { UnlessShut request.wants_answer result self.new }
     {
         match self.admit_monitor(context.alloc, texts, flags) {
             Ok((mailbox, rules)) => self.watch(context, lists, request, mailbox, rules),
@@ -97,7 +97,7 @@ impl<B: Naming, M: Mailbox> Peer<B, M> {
         rules: Vec<Rule>,
     ) -> Result<(), AnswerError>
         ensures row { Watches M.outbox_of request self.old result self.new }
-        ensures error { NeverSlow request.wants_answer result }
+        ensures error { UnlessShut request.wants_answer result self.new }
     {
         self.answer(context, request, Body::Nothing)?;
         self.go_under(context, lists)?;

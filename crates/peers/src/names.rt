@@ -3,7 +3,7 @@
 ghost use Rattle.std.specs.Prelude.{◌≡◌, false};
 ghost use Rattle.router.specs.Calls.{Once, Answers};
 ghost use Rattle.router.specs.Command.TheVariants.{Request as RequestName, Release};
-ghost use Rattle.peers.specs.Answers.{NeverSlow};
+ghost use Rattle.peers.specs.Answers.{UnlessShut};
 ghost use Rattle.peers.specs.NameRows.{RequestsName, ReleasesName, TellsNamed, TellsName};
 
 use crate::context::Context;
@@ -26,7 +26,7 @@ impl<B: Naming, M: Mailbox> Peer<B, M> {
         flags: u32,
     ) -> Result<(), AnswerError>
         ensures row { RequestsName M.outbox_of context.now.shares request name.now (λ asked pass. Once (λ before next. Answers false self.old.pass before (RequestName self.old.pass.connection name.now flags) asked pass next)) self.old result self.new }
-        ensures error { NeverSlow request.wants_answer result }
+        ensures error { UnlessShut request.wants_answer result self.new }
     {
         let Ok(name) = WellKnown::read(name) else {
             return self.refuse(context, request, Refused::Error(ErrorName::InvalidArgs));
@@ -49,7 +49,7 @@ impl<B: Naming, M: Mailbox> Peer<B, M> {
         name: &str,
     ) -> Result<(), AnswerError>
         ensures row { ReleasesName M.outbox_of request name.now (λ asked pass. Once (λ before next. Answers false self.old.pass before (Release self.old.pass.connection name.now) asked pass next)) self.old result self.new }
-        ensures error { NeverSlow request.wants_answer result }
+        ensures error { UnlessShut request.wants_answer result self.new }
     {
         let Ok(name) = WellKnown::read(name) else {
             return self.refuse(context, request, Refused::Error(ErrorName::InvalidArgs));
@@ -68,7 +68,7 @@ impl<B: Naming, M: Mailbox> Peer<B, M> {
         reply: Result<Reply, BusError>,
     ) -> Result<(), AnswerError>
         ensures row { TellsNamed M.outbox_of request reply self.old result self.new }
-        ensures error { NeverSlow request.wants_answer result }
+        ensures error { UnlessShut request.wants_answer result self.new }
     {
         match reply {
             Ok(Reply::Name(named)) => self.tell_named(context, lists, request, &named),
@@ -87,7 +87,7 @@ impl<B: Naming, M: Mailbox> Peer<B, M> {
         named: &Named,
     ) -> Result<(), AnswerError>
         ensures row { TellsName M.outbox_of request named.now self.old result self.new }
-        ensures error { NeverSlow request.wants_answer result }
+        ensures error { UnlessShut request.wants_answer result self.new }
     {
         self.pass.hold(context.alloc);
         let answered = self.answer(context, request, Body::Number(named.answer.number()));

@@ -1,6 +1,7 @@
 // The outbox of a client, as its own session puts messages there.
 
-ghost use Rattle.std.specs.Prelude.{◌≡◌, ◌++◌, ◌∷◌, [], None, IfOk, MatchResult};
+ghost use Rattle.std.specs.Prelude.{◌≡◌, ◌++◌, ◌∷◌, [], true, None, IfErr, MatchBool, MatchResult};
+ghost use Rattle.peers.specs.Answers.{IsShutIf, after_refusal};
 
 use crate::error::AnswerError;
 use outbox::{Item, Seat, Tally};
@@ -10,7 +11,7 @@ use std::marker::Model;
 use std::sync::Wait;
 
 /// A client's own mailbox, and a seat at its outbox. All that is written to the client goes through this outbox.
-/// Contracts see what was put by this seat, in order.
+/// Contracts see what was put by this seat, in order, and whether the outbox is known to be shut.
 #[derive(Drop)]
 pub struct OwnOutbox<M: Mailbox> {
     mailbox: M,
@@ -20,12 +21,12 @@ pub struct OwnOutbox<M: Mailbox> {
 }
 
 impl<M: Mailbox> Model for OwnOutbox<M> {
-    ghost use Rattle.std.specs.Prelude.{◌≡◌, List};
-    ghost use Rattle.outbox.specs.Items.{Item};
+    ghost use Rattle.std.specs.Prelude.{◌≡◌};
+    ghost use Rattle.peers.specs.PeerState.{OwnState};
 
-    ghost Value = { List Item };
+    ghost Value = { OwnState };
 
-    ghost view = { λ o. o.seat.view.put };
+    ghost view = { λ o. record { put = o.seat.view.put; knows_shut = o.seat.knows_shut } };
 
     ghost invariant = { λ o. o.seat.outbox ≡ M.outbox_of o.mailbox };
 }
@@ -33,7 +34,7 @@ impl<M: Mailbox> Model for OwnOutbox<M> {
 impl<M: Mailbox> OwnOutbox<M> {
     /// What goes through the outbox of this mailbox. Nothing is put yet.
     pub fn new(mailbox: M) -> OwnOutbox<M>
-        ensures { result ≡ [] }
+        ensures { result.put ≡ [] }
     {
         let seat = mailbox.outbox().seat();
         OwnOutbox {
@@ -52,10 +53,11 @@ impl<M: Mailbox> OwnOutbox<M> {
     ///
     /// # Errors
     ///
-    /// `Slow` if the outbox is full or shut. Nothing is put then.
+    /// `Slow` if the outbox is full or shut. Nothing is put then, and the outbox is known to be shut.
     pub fn put<W: Wait>(&mut self, rt: &W, message: Item) -> Result<(), AnswerError>
         requires { message.mark ≡ None }
-        ensures { MatchResult result (λ _. self.new ≡ self.old ++ message ∷ []) (λ error. (error ≡ AnswerError.Slow) × (self.new ≡ self.old)) }
+        ensures put { MatchResult result (λ _. self.new ≡ record self.old { put = self.old.put ++ message ∷ [] }) (λ error. (error ≡ AnswerError.Slow) × (self.new ≡ after_refusal error self.old)) }
+        ensures slow { IfErr result (λ error. IsShutIf error self.new) }
     {
         self.is_waiting = true;
         match self.mailbox.outbox().put(rt, &mut self.seat, message) {
@@ -71,7 +73,7 @@ impl<M: Mailbox> OwnOutbox<M> {
 
     /// Whether the outbox was shut, since a message found no room.
     pub fn is_shut(&mut self) -> bool
-        ensures { self.new ≡ self.old }
+        ensures { MatchBool result (self.new ≡ record self.old { knows_shut = true }) (self.new ≡ self.old) }
     {
         self.mailbox.outbox().is_shut(&mut self.seat)
     }

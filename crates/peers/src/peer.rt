@@ -1,6 +1,6 @@
 // A client that has said Hello.
 
-ghost use Rattle.std.specs.Prelude.{◌≡◌};
+ghost use Rattle.std.specs.Prelude.{◌≡◌, true, MatchBool};
 ghost use Rattle.peers.specs.Holdings.{nothing_held};
 ghost use Rattle.peers.specs.PeerState.{PeerState};
 
@@ -44,7 +44,7 @@ where
 
     ghost Value = { PeerState M };
 
-    ghost view = { λ p. record { pass = p.pass; answers = p.own; serial = p.serials; identity = p.identity; holdings = holdings_of p.holdings } };
+    ghost view = { λ p. record { pass = p.pass; own = p.own; serial = p.serials; identity = p.identity; holdings = holdings_of p.holdings } };
 
     ghost invariant = { λ p. p.name ≡ p.pass.connection };
 }
@@ -52,7 +52,7 @@ where
 impl<B: Naming, M: Mailbox> Peer<B, M> {
     /// The peer of a pass that is connected, named by its number. It has taken nothing yet.
     pub fn new(alloc: Global, pass: Pass<B, M>, own: OwnOutbox<M>, identity: Identity) -> Peer<B, M>
-        ensures { result ≡ record { pass = pass; answers = own; serial = 1; identity = identity; holdings = nothing_held } }
+        ensures { result ≡ record { pass = pass; own = own; serial = 1; identity = identity; holdings = nothing_held } }
     {
         let name = UniqueName::new(pass.connection());
         Peer {
@@ -95,7 +95,7 @@ impl<B: Naming, M: Mailbox> Peer<B, M> {
 
     /// Whether the client's outbox was shut, since a message found no room.
     pub fn is_shut(&mut self) -> bool
-        ensures { self.new ≡ self.old }
+        ensures { MatchBool result (self.new ≡ record self.old { own = record self.old.own { knows_shut = true } }) (self.new ≡ self.old) }
     {
         self.own.is_shut()
     }

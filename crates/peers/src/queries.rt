@@ -7,7 +7,7 @@ ghost use Rattle.router.specs.Connections.{numbers_of};
 ghost use Rattle.router.specs.History.{after};
 ghost use Rattle.router.specs.Names.{AreNames};
 ghost use Rattle.unique_name.specs.UniqueNames.{unique_name};
-ghost use Rattle.peers.specs.Answers.{NeverSlow};
+ghost use Rattle.peers.specs.Answers.{UnlessShut};
 ghost use Rattle.peers.specs.LentTexts.{lent_texts};
 ghost use Rattle.peers.specs.Asked.{queue_in};
 ghost use Rattle.peers.specs.Passing.{HasSeenMore, with_pass};
@@ -35,7 +35,7 @@ impl<B: Naming, M: Mailbox> Peer<B, M> {
         name: &str,
     ) -> Result<(), AnswerError>
         ensures row { AnswersOwner name.now (NamesOwner request) self.old result self.new }
-        ensures error { NeverSlow request.wants_answer result }
+        ensures error { UnlessShut request.wants_answer result self.new }
     {
         match self.owner_named(name) {
             Ok(Some(Owner::Bus)) => self.answer_text(context, request, BUS_NAME),
@@ -55,7 +55,7 @@ impl<B: Naming, M: Mailbox> Peer<B, M> {
         name: &str,
     ) -> Result<(), AnswerError>
         ensures row { AnswersOwner name.now (TellsWhetherOwned request) self.old result self.new }
-        ensures error { NeverSlow request.wants_answer result }
+        ensures error { UnlessShut request.wants_answer result self.new }
     {
         match self.owner_named(name) {
             Ok(owner) => self.answer(context, request, Body::Truth(owner.is_some())),
@@ -76,7 +76,7 @@ impl<B: Naming, M: Mailbox> Peer<B, M> {
         missing: ErrorName,
     ) -> Result<(), AnswerError>
         ensures row { AnswersOwner name.now (TellsOfOwned request found.entry missing) self.old result self.new }
-        ensures error { NeverSlow request.wants_answer result }
+        ensures error { UnlessShut request.wants_answer result self.new }
     {
         let why = match (self.owner_named(name), found) {
             (Ok(Some(_)), Ok(body)) => return self.answer(context, request, body),
@@ -93,7 +93,7 @@ impl<B: Naming, M: Mailbox> Peer<B, M> {
         request: Request,
     ) -> Result<(), AnswerError>
         ensures row { AnswersFound AreAllNames request self.old result self.new }
-        ensures error { NeverSlow request.wants_answer result }
+        ensures error { UnlessShut request.wants_answer result self.new }
     {
         match self.all_names(context.alloc) {
             Ok((unique, names)) => {
@@ -124,7 +124,7 @@ impl<B: Naming, M: Mailbox> Peer<B, M> {
         names: &[WellKnown],
     ) -> Result<(), AnswerError>
         ensures row { RepliesTexts request ((bus_name ∷ map unique_name unique.now) ++ names.now) self.old result self.new }
-        ensures error { NeverSlow request.wants_answer result }
+        ensures error { UnlessShut request.wants_answer result self.new }
     {
         match all_name_texts(context.alloc, unique, names) {
             Ok(texts) => self.answer_texts(context, request, texts.as_slice()),
@@ -139,7 +139,7 @@ impl<B: Naming, M: Mailbox> Peer<B, M> {
         name: &str,
     ) -> Result<(), AnswerError>
         ensures row { AnswersFound (AreQueuedFor name.now) request self.old result self.new }
-        ensures error { NeverSlow request.wants_answer result }
+        ensures error { UnlessShut request.wants_answer result self.new }
     {
         match self.queue_named(context.alloc, name) {
             Ok(queue) => self.answer_queue(context, request, &queue),
@@ -154,7 +154,7 @@ impl<B: Naming, M: Mailbox> Peer<B, M> {
         queue: &Queue,
     ) -> Result<(), AnswerError>
         ensures row { RepliesFound request (queue_found (texts_in queue.now)) self.old result self.new }
-        ensures error { NeverSlow request.wants_answer result }
+        ensures error { UnlessShut request.wants_answer result self.new }
     {
         match queue {
             Queue::Bus => self.answer_bus_name(context, request),
@@ -171,7 +171,7 @@ impl<B: Naming, M: Mailbox> Peer<B, M> {
         unique: &[UniqueName],
     ) -> Result<(), AnswerError>
         ensures row { RepliesFound request (queue_found (map unique_name unique.now)) self.old result self.new }
-        ensures error { NeverSlow request.wants_answer result }
+        ensures error { UnlessShut request.wants_answer result self.new }
     {
         if unique.is_empty() {
             return self.refuse(context, request, Refused::Error(ErrorName::NameHasNoOwner));
@@ -186,7 +186,7 @@ impl<B: Naming, M: Mailbox> Peer<B, M> {
         unique: &[UniqueName],
     ) -> Result<(), AnswerError>
         ensures row { RepliesTexts request (map unique_name unique.now) self.old result self.new }
-        ensures error { NeverSlow request.wants_answer result }
+        ensures error { UnlessShut request.wants_answer result self.new }
     {
         match texts_of(context.alloc, unique) {
             Ok(texts) => self.answer_texts(context, request, texts.as_slice()),

@@ -5,6 +5,7 @@ ghost use Rattle.message_view.specs.Message.{Message};
 ghost use Rattle.message_view.specs.Valid.{Valid};
 ghost use Rattle.message_build.specs.Stamped.{Stamps};
 ghost use Rattle.unique_name.specs.UniqueNames.{unique_name};
+ghost use Rattle.peers.specs.Answers.{SlowIfShut};
 ghost use Rattle.peers.specs.Calling.{HasSent, GoesOn};
 ghost use Rattle.peers.specs.Passing.{HasBroadcast, SendsStamped, Concludes, GivesUp};
 ghost use Rattle.peers.specs.PeerState.{name_of};
@@ -61,7 +62,8 @@ impl<B: Naming, M: Mailbox> Peer<B, M> {
         view: &View<'_>,
         to: &str,
     ) -> Result<(), AnswerError>
-        ensures { HasSent M.outbox_of view.now to.now self.old result self.new }
+        ensures outcome { HasSent M.outbox_of view.now to.now self.old result self.new }
+        ensures slow { SlowIfShut result self.new }
     {
         match stamp_message(context.alloc, view, &self.name) {
             Ok(bytes) => self.send_stamped(context, view, to, &bytes),
@@ -81,7 +83,8 @@ impl<B: Naming, M: Mailbox> Peer<B, M> {
         to: &str,
         bytes: &Bytes,
     ) -> Result<(), AnswerError>
-        ensures { GoesOn M.outbox_of view.now to.now bytes.now self.old result self.new }
+        ensures outcome { GoesOn M.outbox_of view.now to.now bytes.now self.old result self.new }
+        ensures slow { SlowIfShut result self.new }
     {
         self.own.tally().add(Counts {
             unicasts: 1,
@@ -109,7 +112,8 @@ impl<B: Naming, M: Mailbox> Peer<B, M> {
         to: &str,
         bytes: &Bytes,
     ) -> Result<(), AnswerError>
-        ensures { SendsStamped M.outbox_of view.now to.now bytes.now self.old result self.new }
+        ensures outcome { SendsStamped M.outbox_of view.now to.now bytes.now self.old result self.new }
+        ensures slow { SlowIfShut result self.new }
     {
         let sent = self
             .pass
@@ -128,7 +132,8 @@ impl<B: Naming, M: Mailbox> Peer<B, M> {
         view: &View<'_>,
         sent: Result<Sent, BusError>,
     ) -> Result<(), AnswerError>
-        ensures { Concludes view.now sent self.old result self.new }
+        ensures outcome { Concludes view.now sent self.old result self.new }
+        ensures slow { SlowIfShut result self.new }
     {
         match sent {
             Ok(Sent::Put(_)) => Ok(()),
@@ -148,7 +153,8 @@ impl<B: Naming, M: Mailbox> Peer<B, M> {
         view: &View<'_>,
         why: Refused,
     ) -> Result<(), AnswerError>
-        ensures { GivesUp view.now why self.old result self.new }
+        ensures outcome { GivesUp view.now why self.old result self.new }
+        ensures slow { SlowIfShut result self.new }
     {
         let request = Request::of(view);
         if view.kind() == Kind::MethodCall && request.wants_answer {

@@ -1,7 +1,7 @@
 // What the bus tells whoever looks into it (D-Bus has no standard for these calls; they are dbus-daemon's).
 
 ghost use Rattle.std.specs.Prelude.{◌≡◌};
-ghost use Rattle.peers.specs.Answers.{NeverSlow};
+ghost use Rattle.peers.specs.Answers.{UnlessShut};
 ghost use Rattle.peers.specs.Stats.{AreFacts, AreTextLists, AnswersInsight, AnswersInsightLater};
 
 use crate::context::Context;
@@ -168,7 +168,7 @@ impl<B: Naming, M: Mailbox> Peer<B, M> {
         request: Request,
     ) -> Result<(), AnswerError>
         ensures row { AnswersInsight AreFacts request self.old result self.new }
-        ensures error { NeverSlow request.wants_answer result }
+        ensures error { UnlessShut request.wants_answer result self.new }
     {
         match self.look_at_all(context) {
             Ok((clients, stats)) => {
@@ -194,7 +194,7 @@ impl<B: Naming, M: Mailbox> Peer<B, M> {
         name: &str,
     ) -> Result<(), AnswerError>
         ensures row { AnswersInsightLater AreFacts request self.old result self.new }
-        ensures error { NeverSlow request.wants_answer result }
+        ensures error { UnlessShut request.wants_answer result self.new }
     {
         let owner = self.owner_named(name);
         self.answer_connection_stats(context, request, owner)
@@ -207,7 +207,7 @@ impl<B: Naming, M: Mailbox> Peer<B, M> {
         owner: Result<Option<Owner>, Refused>,
     ) -> Result<(), AnswerError>
         ensures row { AnswersInsight AreFacts request self.old result self.new }
-        ensures error { NeverSlow request.wants_answer result }
+        ensures error { UnlessShut request.wants_answer result self.new }
     {
         match self.look_at(context, owner) {
             Ok((number, stats)) => {
@@ -245,7 +245,7 @@ impl<B: Naming, M: Mailbox> Peer<B, M> {
         request: Request,
     ) -> Result<(), AnswerError>
         ensures row { AnswersInsight AreTextLists request self.old result self.new }
-        ensures error { NeverSlow request.wants_answer result }
+        ensures error { UnlessShut request.wants_answer result self.new }
     {
         match self.look_at_rules(context) {
             Ok(lists) => self.answer(context, request, Body::TextLists(lists.as_slice())),

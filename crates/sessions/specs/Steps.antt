@@ -37,6 +37,17 @@ abbrev pub Hears : List ℕ → Standing → Standing → Bool → Type 0
 Hears line standing later has_begun = ((talk standing line).standing ≡ later) × (IsTrue has_begun ↔ (later.stage ≡ Begun))
 
 module _ {M : Type 0} where
+  -- The client's outbox is found to be shut, and nothing else has changed. Before Hello clauses don't see its outbox.
+  abbrev pub IsFoundShut : Option (PeerState M) → Option (PeerState M) → Type 0
+  IsFoundShut None peer = peer ≡ None
+  IsFoundShut (Some v) peer = peer ≡ Some (record v { own = record v.own { knows_shut = true } })
+
+  -- a session ends as slow only where the outbox of its client, which has said Hello, is known to be shut
+  abbrev pub IsShutIf : Option (PeerState M) → SessionError → Type 0
+  IsShutIf (Some v) Slow = v.own.knows_shut ≡ true
+  IsShutIf (Some v) _ = Unit {0}
+  IsShutIf None error = Unit {0}
+
   -- A message is handled by the client's peer. The first one makes the peer, whose name it is answered with, if it is Hello;
   -- or it makes none, and the session ends.
   abbrev pub Takes : (M → OutboxId) → Shares → List ℕ → Option (PeerState M) → Result (Unit {0}) SessionError → Option (PeerState M) → Type 0
@@ -78,7 +89,7 @@ module _ {M : Type 0} where
   Steps outbox_of shares v (Ok step) w = (v.fault ≡ None) × TakesNext v.has_begun outbox_of shares v (Ok step) w
   Steps outbox_of shares v (Err error) w =
       ((v.fault ≡ Some error) × (w ≡ v))
-      ⊎ ((v.fault ≡ None) × (mid : SessionState M) × (w ≡ record mid { fault = Some error }) × (((error ≡ Slow) × (mid ≡ v)) ⊎ TakesNext v.has_begun outbox_of shares v (Err error) mid))
+      ⊎ ((v.fault ≡ None) × (mid : SessionState M) × (w ≡ record mid { fault = Some error }) × (((error ≡ Slow) × IsFoundShut v.peer mid.peer × (mid ≡ record v { peer = mid.peer })) ⊎ TakesNext v.has_begun outbox_of shares v (Err error) mid))
 
   -- bytes are added to those that were fed, or memory was refused, and the session ends
   abbrev pub Feeds : List ℕ → SessionState M → Result (Unit {0}) SessionError → SessionState M → Type 0

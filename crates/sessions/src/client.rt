@@ -1,8 +1,8 @@
 // The client that a session serves.
 
-ghost use Rattle.std.specs.Prelude.{◌≡◌, None, IfSome, is_some};
+ghost use Rattle.std.specs.Prelude.{◌≡◌, None, IfErr, IfSome, MatchBool, is_some};
 ghost use Rattle.sessions.specs.SessionState.{connection_of};
-ghost use Rattle.sessions.specs.Steps.{Takes, outcome_of};
+ghost use Rattle.sessions.specs.Steps.{IsFoundShut, IsShutIf, Takes, outcome_of};
 ghost use Rattle.sessions.specs.Subjects.{IsSubjectOf, MayHaveSeen};
 
 use crate::error::SessionError;
@@ -36,12 +36,15 @@ impl<B: Naming, M: Mailbox> Model for Client<B, M>
 where
     Published: Protocol<Shown<B, M>, LinkedList<Command<M>>>,
 {
-    ghost use Rattle.std.specs.Prelude.{Option};
+    ghost use Rattle.std.specs.Prelude.{◌≡◌, Option, None, true, is_some};
     ghost use Rattle.peers.specs.PeerState.{PeerState};
 
     ghost Value = { Option (PeerState M) };
 
     ghost view = { λ c. c.peer };
+
+    // An outbox of its own is that of a client without a peer.
+    ghost invariant = { λ c. is_some c.own ≡ true → c.peer ≡ None };
 }
 
 impl<B: Naming, M: Mailbox> Client<B, M> {
@@ -104,7 +107,7 @@ impl<B: Naming, M: Mailbox> Client<B, M> {
 
     /// Whether the client's outbox was shut, since a message found no room.
     pub(crate) fn is_shut(&mut self) -> bool
-        ensures { self.new ≡ self.old }
+        ensures { MatchBool result (IsFoundShut self.old self.new) (self.new ≡ self.old) }
     {
         if let Some(own) = &mut self.own {
             return own.is_shut();
@@ -135,7 +138,8 @@ impl<B: Naming, M: Mailbox> Client<B, M> {
         lists: &mut RouteLists,
         view: &View<'_>,
     ) -> Result<(), SessionError>
-        ensures { Takes M.outbox_of context.now.shares view.now self.old result self.new }
+        ensures takes { Takes M.outbox_of context.now.shares view.now self.old result self.new }
+        ensures slow { IfErr result (λ error. IsShutIf self.new error) }
     {
         match &mut self.peer {
             Some(peer) => {
@@ -154,7 +158,8 @@ impl<B: Naming, M: Mailbox> Client<B, M> {
         view: &View<'_>,
     ) -> Result<(), SessionError>
         requires { self.old ≡ None }
-        ensures { Takes M.outbox_of context.now.shares view.now None result self.new }
+        ensures takes { Takes M.outbox_of context.now.shares view.now None result self.new }
+        ensures slow { IfErr result (λ error. IsShutIf self.new error) }
     {
         let Some(own) = self.own.take() else {
             return Err(SessionError::NoHello);

@@ -1,8 +1,8 @@
 // A client's session.
 
-ghost use Rattle.std.specs.Prelude.{◌≡◌, [], None, IfOk, IfSome, is_some, length, true};
+ghost use Rattle.std.specs.Prelude.{◌≡◌, [], None, IfErr, IfOk, IfSome, is_some, length, true};
 ghost use Rattle.auth.specs.Admissions.{any_admission};
-ghost use Rattle.sessions.specs.Steps.{Feeds, Steps, TakesNext, TakesMessage, TakesLine};
+ghost use Rattle.sessions.specs.Steps.{Feeds, IsShutIf, Steps, TakesNext, TakesMessage, TakesLine};
 ghost use Rattle.sessions.specs.Ends.{EndsAny};
 ghost use Rattle.sessions.specs.Subjects.{HasLooked, IsNextSubject};
 ghost use Rattle.sessions.specs.SessionState.{connection_of, new_session};
@@ -190,7 +190,8 @@ impl<B: Naming, M: Mailbox> Session<B, M> {
     ///
     /// # Errors
     ///
-    /// Why the session ends, and from then on always. What it has put may still be written out.
+    /// Why the session ends, and from then on always. It is `Slow` only where the client's outbox is known to be shut. What
+    /// the session has put may still be written out.
     pub fn step<W: Wait, R: Wait + Drop>(
         &mut self,
         rt: &W,
@@ -199,7 +200,8 @@ impl<B: Naming, M: Mailbox> Session<B, M> {
         shares: Shares,
         lists: &mut RouteLists,
     ) -> Result<Step, SessionError>
-        ensures { Steps M.outbox_of shares self.old result self.new }
+        ensures steps { Steps M.outbox_of shares self.old result self.new }
+        ensures slow { self.old.fault ≡ None → IfErr result (λ error. IsShutIf self.new.peer error) }
     {
         if let Some(fault) = self.fault {
             return Err(fault);
@@ -232,7 +234,8 @@ impl<B: Naming, M: Mailbox> Session<B, M> {
         context: &Context<'_, B, M, W, R>,
         lists: &mut RouteLists,
     ) -> Result<Step, SessionError>
-        ensures { TakesNext self.old.has_begun M.outbox_of context.now.shares self.old result self.new }
+        ensures takes { TakesNext self.old.has_begun M.outbox_of context.now.shares self.old result self.new }
+        ensures slow { IfErr result (λ error. IsShutIf self.new.peer error) }
     {
         if self.talk.has_begun() {
             self.take_message(context, lists)
@@ -245,7 +248,8 @@ impl<B: Naming, M: Mailbox> Session<B, M> {
         &mut self,
         context: &Context<'_, B, M, W, R>,
     ) -> Result<Step, SessionError>
-        ensures { TakesLine self.old result self.new }
+        ensures takes { TakesLine self.old result self.new }
+        ensures slow { IfErr result (λ error. IsShutIf self.new.peer error) }
     {
         let Some(own) = &mut self.client.own else {
             return Ok(Step::Waits);
@@ -264,7 +268,8 @@ impl<B: Naming, M: Mailbox> Session<B, M> {
         context: &Context<'_, B, M, W, R>,
         lists: &mut RouteLists,
     ) -> Result<Step, SessionError>
-        ensures { TakesMessage M.outbox_of context.now.shares self.old result self.new }
+        ensures takes { TakesMessage M.outbox_of context.now.shares self.old result self.new }
+        ensures slow { IfErr result (λ error. IsShutIf self.new.peer error) }
     {
         let view = match self.input.front() {
             Ok(Some(view)) => view,

@@ -16,7 +16,7 @@ returns-in-Ok-clause-answer g c =
     let built : asked v.serial (name_of v) = subst (asked v.serial) named (subst (λ n. asked n c.as_str.result.now) serial (reply_is _ _ _ _ _ c.in-Ok.ensures)) in
     let P : List ℕ → Type 0 = AreAsked (reply_with v.serial (name_of v) c.args.request c.args.body) in
     answered_if c.args.request _ v c.put.result c.put.new.self (not_false _ c.if-not-request.false)
-    (put_as (λ bytes. bytes ≡ c.in-Ok.bytes) _ _ _ c.put.result c.put.new.self (used_serial _ _ _ _ _ _ v c.self.view_is c.take-serial.ensures.used) (λ bytes e. inl (subst P (sym e) built)) c.put.ensures)
+    (put_as (λ bytes. bytes ≡ c.in-Ok.bytes) _ _ _ c.put.result c.put.new.self (used_serial _ _ _ _ _ _ v c.self.view_is c.take-serial.ensures.used) (λ bytes e. inl (subst P (sym e) built)) c.put.ensures.put)
 
 pub returns-in-Err-clause-answer : goal.returns-in-Err-clause-answer
 returns-in-Err-clause-answer g c =
@@ -27,4 +27,4 @@ returns-in-Err-clause-answer g c =
     let moved : (bytes : List ℕ) → fault c.take-serial.result c.self.inside.pass.connection bytes → fault v.serial v.pass.connection bytes = λ bytes h. subst (λ n. fault v.serial n bytes) connection (subst (λ n. fault n c.self.inside.pass.connection bytes) serial h) in
     answered_if c.args.request _ v c.put_error.result c.put_error.new.self (not_false _ c.if-not-request.false)
     (put_as (λ bytes. fault c.take-serial.result c.self.inside.pass.connection bytes ⊎ fault c.take-serial.result c.self.inside.pass.connection bytes) _ _ _ c.put_error.result c.put_error.new.self (used_serial _ _ _ _ _ _ v c.self.view_is c.take-serial.ensures.used)
-    (λ bytes h. inr (⊎_elim (moved bytes) (moved bytes) h)) c.put_error.ensures)
+    (λ bytes h. inr (⊎_elim (moved bytes) (moved bytes) h)) c.put_error.ensures.put)

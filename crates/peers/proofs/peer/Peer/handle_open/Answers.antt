@@ -4,7 +4,7 @@ use Rattle.peers.specs.Handling.{is_known}
 use Rattle.peers.proofs.Handling.{handled_to}
 use Rattle.peers.proofs.peer.Peer.handle_open.Goals as goal
 
-pub returns-in-Some : goal.returns-in-Some
-returns-in-Some g c m valid =
+pub returns-in-Some-clause-handled : goal.returns-in-Some-clause-handled
+returns-in-Some-clause-handled g c m valid =
     handled_to g.M.Mailbox.outbox_of c.args.context.now.shares c.args.view.now c.in-Some.name.now m c.args.self.now c.send_to.new.self c.send_to.result (sym (c.is_for_bus.ensures m valid) ∙ c.if-is_for_bus.false)
-    (sym (c.is_known.ensures ∙ ap is_known (c.kind.ensures m valid)) ∙ c.if-is_known.true) (sym (c.destination.ensures m valid) ∙ ap (option_map (λ text. text.now)) c.in-Some.is) c.send_to.ensures
+    (sym (c.is_known.ensures ∙ ap is_known (c.kind.ensures m valid)) ∙ c.if-is_known.true) (sym (c.destination.ensures m valid) ∙ ap (option_map (λ text. text.now)) c.in-Some.is) c.send_to.ensures.outcome

@@ -18,4 +18,4 @@ returns-clause-answer g c =
     λ name bytes h. subst (λ n. fault name v.serial n bytes) connection (subst (λ n. fault name n c.self.inside.pass.connection bytes) serial h) in
     refused_if c.args.request c.args.why c.in-Error.name v c.put_error.result c.put_error.new.self c.in-Error.is (not_false _ c.if-not-request.false)
     (put_as (λ bytes. fault c.in-Error.name c.take-serial.result c.self.inside.pass.connection bytes ⊎ fault NoMemory c.take-serial.result c.self.inside.pass.connection bytes) _ _ _ c.put_error.result c.put_error.new.self
-    (used_serial _ _ _ _ _ _ v c.self.view_is c.take-serial.ensures.used) (λ bytes h. ⊎_elim (λ x. inl (moved c.in-Error.name bytes x)) (λ x. inr (moved NoMemory bytes x)) h) c.put_error.ensures)
+    (used_serial _ _ _ _ _ _ v c.self.view_is c.take-serial.ensures.used) (λ bytes h. ⊎_elim (λ x. inl (moved c.in-Error.name bytes x)) (λ x. inr (moved NoMemory bytes x)) h) c.put_error.ensures.put)
