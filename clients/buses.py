@@ -24,6 +24,7 @@ class Bus:
     def __init__(self, kind, transport="unix", limit=None, workers=None, options=None, home=None):
         self.kind = kind
         self.controller = None
+        self.reader = None
         self.folder = tempfile.mkdtemp(prefix="dbusfan-clients-")
         socket = os.path.join(self.folder, "bus")
         wanted = f"unix:path={socket}" if transport == "unix" else "tcp:host=127.0.0.1,port=0"
@@ -96,6 +97,9 @@ class Bus:
         if self.controller:
             self.controller.close()
         self.log.close()
+        if self.reader:
+            with open(self.log.name) as log:
+                self.reader(log.read())
         shutil.rmtree(self.folder)
 
     def __enter__(self):
