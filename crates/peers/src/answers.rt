@@ -1,6 +1,6 @@
 // How a call is answered.
 
-ghost use Rattle.std.specs.Prelude.{◌≡◌, ◌∷◌, [], Some, IfOk, option_map};
+ghost use Rattle.std.specs.Prelude.{◌≡◌, ◌∷◌, [], Some, IfErr, IfOk, option_map};
 ghost use Rattle.signature.specs.Name.{bus_name};
 ghost use Rattle.bus_messages.specs.Sent.{error_asked};
 ghost use Rattle.peers.specs.Answers.{IsRefused, IsPut, IsEither, SlowIfShut, UnlessShut, fault_with};
@@ -165,7 +165,8 @@ pub(crate) fn error_bytes(
     request: Request,
     name: ErrorName,
 ) -> Result<Bytes, AnswerError>
-    ensures { IfOk result (IsEither (error_asked serial (option_map (λ text. text.now) to.entry) request.serial name) (error_asked serial (option_map (λ text. text.now) to.entry) request.serial ErrorName.NoMemory)) }
+    ensures built { IfOk result (IsEither (error_asked serial (option_map (λ text. text.now) to.entry) request.serial name) (error_asked serial (option_map (λ text. text.now) to.entry) request.serial ErrorName.NoMemory)) }
+    ensures error { IfErr result (λ error. error ≡ AnswerError.NoMemory) }
 {
     match error(alloc, serial, to, request.serial, name) {
         Ok(bytes) => Ok(bytes),
