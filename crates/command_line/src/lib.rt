@@ -21,5 +21,5 @@ pub use hex_text::{HexError, decode};
 pub use output::Output;
 pub use streams::Stream;
 pub use system::{System, args};
-pub use usage::text_for;
+pub use usage::{fault_of, spread, text_for};
 pub use writer::Writer;

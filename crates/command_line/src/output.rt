@@ -39,6 +39,13 @@ impl<W: Writer> Output<W> {
         }
     }
 
+    /// Writes a line for people, which says more of a fault, after the fault's own.
+    pub fn put_reason(&mut self, reason: &str) {
+        self.put(b"  ");
+        self.put(reason.as_bytes());
+        self.put(b"\n");
+    }
+
     /// Writes the line of a fault and flushes it. The line is written as a whole, so that no other program's text comes
     /// into it.
     pub fn put_fault(&mut self, fault: Fault)

@@ -1,7 +1,8 @@
 //! The program dbusfan: what the system gives to the commands that filter messages, and help for all commands.
 #![tactic(auto)]
 
-use command_line::{Fault, Output, Stream, System, Writer, args};
+use command_line::{Fault, Files, Output, Stream, System, Writer, args, spread};
+use dbusfan_tool::reason_for;
 pub use dbusfan_tool::tool;
 use std::alloc::Global;
 use std::io;
@@ -34,12 +35,25 @@ fn run<R: Runtime<A = Global>, E: Writer>(
         .skip(1)
         .map(|arg| arg.as_str())
         .collect(rt.alloc())?;
+    let words = spread(rt.alloc(), words.as_slice())?;
+    let words = words.as_slice();
     let mut out = Output::new(Stream::new(io::writer(rt)));
-    Ok(tool(
-        rt.alloc(),
-        words.as_slice(),
-        &mut System::with_progress(rt, is_terminal),
-        &mut out,
-        err,
-    ))
+    let mut system = System::with_progress(rt, is_terminal);
+    let status = tool(rt.alloc(), words, &mut system, &mut out, err);
+    if status > 1 {
+        explain(rt.alloc(), words, &mut System::new(rt), err);
+    }
+    Ok(status)
+}
+
+/// Says what was wrong, in a line for people after the one for programs, as far as memory allows.
+fn explain<'a, F: Files, E: Writer>(
+    alloc: Global,
+    words: &'a [&'a str],
+    files: &mut F,
+    err: &mut Output<E>,
+) {
+    if let Ok(Some(reason)) = reason_for(alloc, words, files) {
+        err.put_reason(reason.as_str());
+    }
 }

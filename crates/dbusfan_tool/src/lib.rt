@@ -15,6 +15,7 @@ mod finding;
 mod help;
 mod matching;
 mod program;
+mod reasons;
 mod report;
 mod running;
 mod tally;
@@ -22,3 +23,4 @@ mod wording;
 
 pub use command_line::{Fault, FileError, Files, Output, Writer};
 pub use entry::tool;
+pub use reasons::reason_for;

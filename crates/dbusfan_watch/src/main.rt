@@ -1,7 +1,7 @@
 //! The program dbusfan_watch: what the system gives to the command `watch`.
 #![tactic(auto)]
 
-use command_line::{Fault, Output, Stream, System, Writer, args};
+use command_line::{Fault, Output, Stream, System, Writer, args, fault_of, spread};
 use std::alloc::Global;
 use std::io;
 use std::io::{IsTerminal, Lock};
@@ -39,13 +39,23 @@ where
         .skip(1)
         .map(|arg| arg.as_str())
         .collect(rt.alloc())?;
+    let words = spread(rt.alloc(), words.as_slice())?;
+    let words = words.as_slice();
     let mut out = Output::new(Stream::new(io::writer(rt)));
-    Ok(watch(
-        rt,
-        device,
-        words.as_slice(),
-        &mut System::new(rt),
-        &mut out,
-        err,
-    ))
+    let status = watch(rt, device, words, &mut System::new(rt), &mut out, err);
+    if status == Fault::Usage.status() {
+        explain(rt.alloc(), words, err);
+    }
+    Ok(status)
+}
+
+/// Says what was wrong with the words, in a line for people after the one for programs, as far as memory allows.
+fn explain<E: Writer>(alloc: Global, words: &[&str], err: &mut Output<E>) {
+    let mut whole = Vec::new(alloc);
+    if whole.push("watch").is_err() || whole.extend_from_slice(words).is_err() {
+        return;
+    }
+    if let Ok(Some(reason)) = fault_of(alloc, whole.as_slice()) {
+        err.put_reason(reason.as_str());
+    }
 }

@@ -38,7 +38,7 @@ fn is_request(word: &str) -> bool
     word == "--help" || word == "-h" || word == "help" || word == "--version" || word == "-V"
 }
 
-fn parse<'a>(alloc: Global, words: &'a [&'a str]) -> Result<ArgMatches<'a>, Error> {
+pub(crate) fn parse<'a>(alloc: Global, words: &'a [&'a str]) -> Result<ArgMatches<'a>, Error> {
     dbusfan(alloc)?.try_get_matches_from(words)
 }
 
@@ -57,6 +57,7 @@ fn program<'a>(alloc: Global) -> Result<Command<'a>, AllocError> {
         .after_help("`-` as FILE is standard input. A RULE that begins with `-` goes after `--`.")
         .no_binary_name(true)
         .subcommand_required(true)
+        .propagate_version(true)
         .bin_name("dbusfan")
 }
 

@@ -1,0 +1,198 @@
+// What is said to people of words and texts that were refused.
+
+use captures::is_capture;
+use command_line::{CommandRow, FileError, Files, HexError, decode, fault_of};
+use match_key::RuleError;
+use match_rule::Rule;
+use std::alloc::{AllocError, Global};
+use std::fmt;
+
+/// What is wrong with a text or a file.
+enum Reason<'a> {
+    /// The fault of a rule, in the part with this key that begins after so many bytes.
+    Rule {
+        place: usize,
+        key: &'a str,
+        fault: RuleError,
+    },
+    /// A byte of a file that is no hexadecimal digit.
+    NoDigit {
+        file: &'a str,
+        line: u64,
+        column: u64,
+    },
+    /// The last byte of a file's hexadecimal text has one digit alone.
+    HalfByte(&'a str),
+    Unreadable(&'a str),
+}
+
+impl<'a> fmt::Display for Reason<'a> {
+    fn fmt<W: fmt::Write>(&self, f: &mut fmt::Formatter<W>) -> fmt::Result {
+        match self {
+            Reason::Rule { place, key, fault } => {
+                write!(f, "rule, at {place}: ")?;
+                write_fault(f, key, *fault)
+            }
+            Reason::NoDigit { file, line, column } => write!(
+                f,
+                "{file}, line {line}, column {column}: not a hexadecimal digit"
+            ),
+            Reason::HalfByte(file) => write!(f, "{file}: the last byte has one digit alone"),
+            Reason::Unreadable(file) => write!(f, "{file}: it isn't there, or can't be read"),
+        }
+    }
+}
+
+fn write_fault<W: fmt::Write>(
+    f: &mut fmt::Formatter<W>,
+    key: &str,
+    fault: RuleError,
+) -> fmt::Result {
+    match fault {
+        RuleError::TooLong => f.write_str("a rule has at most 1,024 bytes"),
+        RuleError::UnknownKey => write!(f, "there is no key {key}"),
+        RuleError::KeyTwice => write!(f, "{key} is given twice"),
+        RuleError::BadValue => write!(f, "this is no value of {key}"),
+        RuleError::Unquoted => write!(f, "the value of {key} isn't closed"),
+        RuleError::PathTwice => f.write_str("path and path_namespace exclude one another"),
+        RuleError::ArgNumber => write!(f, "{key} isn't one of arg0 to arg63"),
+        RuleError::NoMemory => f.write_str("there is no memory"),
+    }
+}
+
+/// What was wrong with the words that `tool` refused, or with a text that they name, in a line for people; `None` where
+/// its own line says all. Files are read again, but for standard input, which would give other bytes.
+pub fn reason_for<'a, F: Files>(
+    alloc: Global,
+    words: &'a [&'a str],
+    files: &mut F,
+) -> Result<Option<String>, AllocError> {
+    let reason = match CommandRow::read(words) {
+        None => return fault_of(alloc, words),
+        Some(CommandRow::Match { rule, file, .. }) => match rule_reason(alloc, rule)? {
+            Some(reason) => Some(reason),
+            None => message_reason(alloc, file, files)?,
+        },
+        Some(CommandRow::Compile { rule }) => rule_reason(alloc, rule)?,
+        Some(CommandRow::Run { program, file, .. }) => match file_reason(alloc, program, files)? {
+            Some(reason) => Some(reason),
+            None => message_reason(alloc, file, files)?,
+        },
+        Some(CommandRow::Asm { file } | CommandRow::Check { file }) => {
+            file_reason(alloc, file, files)?
+        }
+    };
+    match reason {
+        Some(reason) => Ok(Some(reason.to_string(alloc)?)),
+        None => Ok(None),
+    }
+}
+
+fn rule_reason<'a>(alloc: Global, text: &'a str) -> Result<Option<Reason<'a>>, AllocError> {
+    match Rule::read(alloc, text) {
+        Ok(_) => Ok(None),
+        Err(RuleError::NoMemory) => Err(AllocError),
+        Err(fault) => {
+            let (place, key) = part_at_fault(alloc, text)?;
+            Ok(Some(Reason::Rule { place, key, fault }))
+        }
+    }
+}
+
+// The first part of a rule with which it is none: how many bytes come before it, and its key. A comma between apostrophes
+// parts nothing.
+fn part_at_fault<'a>(alloc: Global, text: &'a str) -> Result<(usize, &'a str), AllocError> {
+    let mut so_far = String::new(alloc);
+    let mut part = (0, "");
+    let mut is_closed = true;
+    let mut is_first = true;
+    for piece in text.split(',') {
+        if !is_first {
+            so_far.push_str(",")?;
+        }
+        if is_closed {
+            part = (so_far.len(), key_of(piece));
+        }
+        so_far.push_str(piece)?;
+        is_first = false;
+        if piece.bytes().filter(|byte| *byte == b'\'').count() % 2 == 1 {
+            is_closed = !is_closed;
+        }
+        if is_closed && Rule::read(alloc, so_far.as_str()).is_err() {
+            return Ok(part);
+        }
+    }
+    Ok(part)
+}
+
+fn key_of(piece: &str) -> &str {
+    match piece.split_once('=') {
+        Some((key, _)) => key,
+        None => piece,
+    }
+}
+
+fn file_reason<'a, F: Files>(
+    alloc: Global,
+    file: &'a str,
+    files: &mut F,
+) -> Result<Option<Reason<'a>>, AllocError> {
+    if file == "-" {
+        return Ok(None);
+    }
+    match files.read(alloc, file) {
+        Ok(_) => Ok(None),
+        Err(FileError::File) => Ok(Some(Reason::Unreadable(file))),
+        Err(FileError::Memory) => Err(AllocError),
+    }
+}
+
+// What is wrong with a file that has a message as hexadecimal text.
+fn message_reason<'a, F: Files>(
+    alloc: Global,
+    file: &'a str,
+    files: &mut F,
+) -> Result<Option<Reason<'a>>, AllocError> {
+    if file == "-" {
+        return Ok(None);
+    }
+    match files.read(alloc, file) {
+        Ok(text) if is_capture(&text) => Ok(None),
+        Ok(text) => text_reason(alloc, file, &text),
+        Err(FileError::File) => Ok(Some(Reason::Unreadable(file))),
+        Err(FileError::Memory) => Err(AllocError),
+    }
+}
+
+fn text_reason<'a>(
+    alloc: Global,
+    file: &'a str,
+    text: &[u8],
+) -> Result<Option<Reason<'a>>, AllocError> {
+    match decode(alloc, text) {
+        Ok(_) => Ok(None),
+        Err(HexError::Memory) => Err(AllocError),
+        Err(HexError::Hex) => match place_of_no_digit(text) {
+            Some((line, column)) => Ok(Some(Reason::NoDigit { file, line, column })),
+            None => Ok(Some(Reason::HalfByte(file))),
+        },
+    }
+}
+
+// The line and the column of the first byte that is neither a digit nor a blank.
+fn place_of_no_digit(text: &[u8]) -> Option<(u64, u64)> {
+    let mut line = 1u64;
+    let mut column = 1u64;
+    for byte in text {
+        match *byte {
+            b'\n' => {
+                line = line.wrapping_add(1);
+                column = 1;
+            }
+            b' ' | b'\t' | b'\r' => column = column.wrapping_add(1),
+            byte if byte.is_ascii_hexdigit() => column = column.wrapping_add(1),
+            _ => return Some((line, column)),
+        }
+    }
+    None
+}
