@@ -8,6 +8,7 @@ use std::alloc::{AllocError, Global};
 use std::fmt;
 
 /// What is wrong with a text or a file.
+#[derive(Clone, Copy)]
 enum Reason<'a> {
     /// The fault of a rule, in the part with this key that begins after so many bytes.
     Rule {

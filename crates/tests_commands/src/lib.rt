@@ -19,6 +19,8 @@ mod help;
 #[cfg(test)]
 mod match_rules;
 #[cfg(test)]
+mod reasons;
+#[cfg(test)]
 mod running;
 #[cfg(test)]
 mod scripts;
