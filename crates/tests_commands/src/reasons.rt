@@ -111,13 +111,9 @@ fn words_of_no_row(rt: HostRuntime) {
 #[test]
 fn values_after_an_equals_sign(rt: HostRuntime) {
     let words = ["run", "--edition=2", "P", "--", "--a=b"];
+    let wanted = ["run", "--edition", "2", "P", "--", "--a=b"];
     match spread(rt.alloc(), &words) {
-        Ok(found) => {
-            assert_eq!(rt;
-                found.as_slice(),
-                &["run", "--edition", "2", "P", "--", "--a=b"]
-            );
-        }
+        Ok(found) => assert_eq!(rt; found.as_slice(), wanted.as_slice()),
         Err(_) => panic!(rt; "no memory"),
     }
 }
