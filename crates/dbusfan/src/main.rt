@@ -41,7 +41,7 @@ fn run<R: Runtime<A = Global>, E: Writer>(
     let mut system = System::with_progress(rt, is_terminal);
     let status = tool(rt.alloc(), words, &mut system, &mut out, err);
     if status > 1 {
-        explain(rt.alloc(), words, &mut System::new(rt), err);
+        explain(rt.alloc(), status, words, &mut System::new(rt), err);
     }
     Ok(status)
 }
@@ -49,11 +49,16 @@ fn run<R: Runtime<A = Global>, E: Writer>(
 /// Says what was wrong, in a line for people after the one for programs, as far as memory allows.
 fn explain<'a, F: Files, E: Writer>(
     alloc: Global,
+    status: u8,
     words: &'a [&'a str],
     files: &mut F,
     err: &mut Output<E>,
 ) {
-    if let Ok(Some(reason)) = reason_for(alloc, words, files) {
-        err.put_reason(reason.as_str());
+    match reason_for(alloc, words, files) {
+        Ok(Some(reason)) => err.put_reason(reason.as_str()),
+        Ok(None) if status == Fault::Usage.status() => {
+            err.put_reason("these words don't go together; see dbusfan --help");
+        }
+        _ => {}
     }
 }

@@ -55,7 +55,11 @@ fn explain<E: Writer>(alloc: Global, words: &[&str], err: &mut Output<E>) {
     if whole.push("watch").is_err() || whole.extend_from_slice(words).is_err() {
         return;
     }
-    if let Ok(Some(reason)) = fault_of(alloc, whole.as_slice()) {
-        err.put_reason(reason.as_str());
+    match fault_of(alloc, whole.as_slice()) {
+        Ok(Some(reason)) => err.put_reason(reason.as_str()),
+        Ok(None) => err.put_reason(
+            "these words don't go together, or don't say which messages; see dbusfan watch --help",
+        ),
+        Err(_) => {}
     }
 }
