@@ -10,7 +10,7 @@ use std::fmt;
 /// What is wrong with a text or a file.
 #[derive(Clone, Copy)]
 enum Reason<'a> {
-    /// The fault of a rule, in the part with this key that begins after so many bytes.
+    /// The fault of a rule, in the part with this key that begins at this byte, from 0.
     Rule {
         place: usize,
         key: &'a str,
@@ -72,15 +72,17 @@ pub fn reason_for<'a, F: Files>(
         None => return fault_of(alloc, words),
         Some(CommandRow::Match { rule, file, .. }) => match rule_reason(alloc, rule)? {
             Some(reason) => Some(reason),
-            None => message_reason(alloc, file, files)?,
+            None => file_reason(alloc, file, true, files)?,
         },
         Some(CommandRow::Compile { rule }) => rule_reason(alloc, rule)?,
-        Some(CommandRow::Run { program, file, .. }) => match file_reason(alloc, program, files)? {
+        Some(CommandRow::Run { program, file, .. }) => match file_reason(
+            alloc, program, false, files,
+        )? {
             Some(reason) => Some(reason),
-            None => message_reason(alloc, file, files)?,
+            None => file_reason(alloc, file, true, files)?,
         },
         Some(CommandRow::Asm { file } | CommandRow::Check { file }) => {
-            file_reason(alloc, file, files)?
+            file_reason(alloc, file, false, files)?
         }
     };
     match reason {
@@ -133,33 +135,19 @@ fn key_of(piece: &str) -> &str {
     }
 }
 
+// What is wrong with a file, which has a program, or a message as hexadecimal text.
 fn file_reason<'a, F: Files>(
     alloc: Global,
     file: &'a str,
+    has_message: bool,
     files: &mut F,
 ) -> Result<Option<Reason<'a>>, AllocError> {
     if file == "-" {
         return Ok(None);
     }
     match files.read(alloc, file) {
+        Ok(text) if has_message && !is_capture(&text) => text_reason(alloc, file, &text),
         Ok(_) => Ok(None),
-        Err(FileError::File) => Ok(Some(Reason::Unreadable(file))),
-        Err(FileError::Memory) => Err(AllocError),
-    }
-}
-
-// What is wrong with a file that has a message as hexadecimal text.
-fn message_reason<'a, F: Files>(
-    alloc: Global,
-    file: &'a str,
-    files: &mut F,
-) -> Result<Option<Reason<'a>>, AllocError> {
-    if file == "-" {
-        return Ok(None);
-    }
-    match files.read(alloc, file) {
-        Ok(text) if is_capture(&text) => Ok(None),
-        Ok(text) => text_reason(alloc, file, &text),
         Err(FileError::File) => Ok(Some(Reason::Unreadable(file))),
         Err(FileError::Memory) => Err(AllocError),
     }
