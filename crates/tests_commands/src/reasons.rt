@@ -6,106 +6,87 @@ use dbusfan_tool::reason_for;
 use std::alloc::Global;
 use std::process::Abort;
 
-/// That this is said of words, where the message's file has this text.
-fn expect<R: Abort>(rt: &R, alloc: Global, words: &[&str], message: &[u8], said: &str) {
+/// That this is said of words, divided by bars, where the message's file has this text.
+fn expect<R: Abort>(rt: &R, alloc: Global, line: &str, message: &[u8], said: &str) {
+    let words: Vec<&str> = line.split('|').collect(alloc).expect(rt, "memory");
     let mut files = TwoFiles::new(b"ret #1", message);
-    match reason_for(alloc, words, &mut files) {
-        Ok(Some(reason)) => assert_eq!(rt; reason.as_str(), said),
-        Ok(None) => assert_eq!(rt; "", said),
+    match reason_for(alloc, words.as_slice(), &mut files) {
+        Ok(Some(reason)) => assert_eq!(rt; reason.as_str(), said, "at {line}"),
+        Ok(None) => assert_eq!(rt; "", said, "at {line}"),
         Err(_) => panic!(rt; "no memory"),
     }
 }
 
-fn expect_of_rule<R: Abort>(rt: &R, alloc: Global, rule: &str, said: &str) {
-    expect(rt, alloc, &["compile", rule], b"", said);
-    expect(rt, alloc, &["match", rule, "F"], b"", said);
-}
-
 #[test]
 fn rules(rt: HostRuntime) {
-    let alloc = rt.alloc();
-    expect_of_rule(
-        &rt,
-        alloc,
-        "type='signal',path='/a",
-        "rule, at 14: the value of path isn't closed",
-    );
-    expect_of_rule(
-        &rt,
-        alloc,
-        "arg0='a,b',colour='red',path='/a",
-        "rule, at 11: there is no key colour",
-    );
-    expect_of_rule(
-        &rt,
-        alloc,
-        "member='a',member='b'",
-        "rule, at 11: member is given twice",
-    );
-    expect_of_rule(
-        &rt,
-        alloc,
-        "path='/a',path_namespace='/b'",
-        "rule, at 10: path and path_namespace exclude one another",
-    );
-    expect_of_rule(
-        &rt,
-        alloc,
-        "interface='a'",
-        "rule, at 0: this is no value of interface",
-    );
+    for (line, said) in [
+        (
+            "compile|type='signal',path='/a",
+            "rule, at 14: the value of path isn't closed",
+        ),
+        (
+            "match|arg0='a,b',colour='red',path='/a|F",
+            "rule, at 11: there is no key colour",
+        ),
+        (
+            "compile|member='a',member='b'",
+            "rule, at 11: member is given twice",
+        ),
+        (
+            "match|path='/a',path_namespace='/b'|F",
+            "rule, at 10: path and path_namespace exclude one another",
+        ),
+        (
+            "compile|interface='a'",
+            "rule, at 0: this is no value of interface",
+        ),
+    ] {
+        expect(&rt, rt.alloc(), line, b"", said);
+    }
 }
 
 #[test]
 fn texts(rt: HostRuntime) {
     let alloc = rt.alloc();
-    let words = ["match", "member='c'", "F"];
+    let line = "match|member='c'|F";
+    let no_digit = "F, line 2, column 3: not a hexadecimal digit";
+    expect(&rt, alloc, line, b"6c 0\n 4g", no_digit);
     expect(
         &rt,
         alloc,
-        &words,
-        b"6c 0\n 4g",
-        "F, line 2, column 3: not a hexadecimal digit",
-    );
-    expect(
-        &rt,
-        alloc,
-        &words,
+        line,
         b"6c0",
         "F: the last byte has one digit alone",
     );
-    expect(&rt, alloc, &words, S1.as_bytes(), "");
-    let unreadable = "X: it isn't there, or can't be read";
-    expect(&rt, alloc, &["match", "", "X"], b"", unreadable);
-    expect(&rt, alloc, &["run", "X", "F"], b"", unreadable);
-    expect(&rt, alloc, &["run", "P", "X"], b"", unreadable);
-    expect(&rt, alloc, &["check", "X"], b"", unreadable);
+    expect(&rt, alloc, line, S1.as_bytes(), "");
+}
+
+#[test]
+fn files(rt: HostRuntime) {
+    let said = "X: it isn't there, or can't be read";
+    for line in ["match||X", "run|X|F", "run|P|X", "check|X", "asm|X"] {
+        expect(&rt, rt.alloc(), line, b"", said);
+    }
 }
 
 #[test]
 fn words_of_no_row(rt: HostRuntime) {
-    let alloc = rt.alloc();
-    expect(
-        &rt,
-        alloc,
-        &["match", "--nonsense", "a", "F"],
-        b"",
-        "unexpected argument '--nonsense' found; see dbusfan match --help",
-    );
-    expect(
-        &rt,
-        alloc,
-        &["match"],
-        b"",
-        "the following required arguments were not provided: <RULE> <FILE>; see dbusfan match --help",
-    );
-    expect(
-        &rt,
-        alloc,
-        &["nonsense"],
-        b"",
-        "unrecognized subcommand 'nonsense'; see dbusfan --help",
-    );
+    for (line, said) in [
+        (
+            "match|--nonsense|a|F",
+            "unexpected argument '--nonsense' found; see dbusfan match --help",
+        ),
+        (
+            "match",
+            "the following required arguments were not provided: <RULE> <FILE>; see dbusfan match --help",
+        ),
+        (
+            "nonsense",
+            "unrecognized subcommand 'nonsense'; see dbusfan --help",
+        ),
+    ] {
+        expect(&rt, rt.alloc(), line, b"", said);
+    }
 }
 
 #[test]
