@@ -14,11 +14,12 @@ class Ends:
         self.counts = collections.Counter()
         self.wrong = []
 
-    def read(self, text):
-        """Reads the log of one bus that was killed, so that its last line may be cut off and some clients have no end."""
+    def read(self, text, shows_all):
+        """Reads the log of one bus that was killed, so that its last line may be cut off and some clients have no end; all who came
+        are in it where it `shows_all`."""
         here, gone = set(), set()
         lines = text.split("\n")[:-1]
-        is_whole = not any("lines are missing" in line for line in lines)
+        is_whole = shows_all and not any("lines are missing" in line for line in lines)
         for line in lines:
             found = LINE.fullmatch(line)
             if not found:
