@@ -1,5 +1,6 @@
 // What is said to people of words and texts that were refused.
 
+use crate::beginning::Beginning;
 use captures::is_capture;
 use command_line::{CommandRow, FileError, Files, HexError, decode, fault_of};
 use match_key::RuleError;
@@ -70,19 +71,31 @@ pub fn reason_for<'a, F: Files>(
 ) -> Result<Option<String>, AllocError> {
     let reason = match CommandRow::read(words) {
         None => return fault_of(alloc, words),
-        Some(CommandRow::Match { rule, file, .. }) => match rule_reason(alloc, rule)? {
+        Some(
+            CommandRow::Match {
+                rule,
+                file,
+                each,
+                ..
+            },
+        ) => match rule_reason(alloc, rule)? {
             Some(reason) => Some(reason),
-            None => file_reason(alloc, file, true, files)?,
+            None => message_reason(alloc, file, each, files)?,
         },
         Some(CommandRow::Compile { rule }) => rule_reason(alloc, rule)?,
-        Some(CommandRow::Run { program, file, .. }) => match file_reason(
-            alloc, program, false, files,
-        )? {
+        Some(
+            CommandRow::Run {
+                program,
+                file,
+                each,
+                ..
+            },
+        ) => match program_reason(alloc, program, files)? {
             Some(reason) => Some(reason),
-            None => file_reason(alloc, file, true, files)?,
+            None => message_reason(alloc, file, each, files)?,
         },
         Some(CommandRow::Asm { file } | CommandRow::Check { file }) => {
-            file_reason(alloc, file, false, files)?
+            program_reason(alloc, file, files)?
         }
     };
     match reason {
@@ -135,22 +148,61 @@ fn key_of(piece: &str) -> &str {
     }
 }
 
-// What is wrong with a file, which has a program, or a message as hexadecimal text.
-fn file_reason<'a, F: Files>(
+// What is said of a file that gave no bytes.
+fn unread_reason<'a>(file: &'a str, error: FileError) -> Result<Option<Reason<'a>>, AllocError> {
+    match error {
+        FileError::File => Ok(Some(Reason::Unreadable(file))),
+        FileError::Memory => Err(AllocError),
+    }
+}
+
+fn program_reason<'a, F: Files>(
     alloc: Global,
     file: &'a str,
-    has_message: bool,
     files: &mut F,
 ) -> Result<Option<Reason<'a>>, AllocError> {
     if file == "-" {
         return Ok(None);
     }
     match files.read(alloc, file) {
-        Ok(text) if has_message && !is_capture(&text) => text_reason(alloc, file, &text),
         Ok(_) => Ok(None),
-        Err(FileError::File) => Ok(Some(Reason::Unreadable(file))),
-        Err(FileError::Memory) => Err(AllocError),
+        Err(error) => unread_reason(file, error),
     }
+}
+
+// What is wrong with a file that has a message as hexadecimal text. Of a capture nothing is said.
+fn message_reason<'a, F: Files>(
+    alloc: Global,
+    file: &'a str,
+    each: bool,
+    files: &mut F,
+) -> Result<Option<Reason<'a>>, AllocError> {
+    if file == "-" {
+        return Ok(None);
+    }
+    match hex_text(alloc, file, each, files) {
+        Ok(Some(text)) => text_reason(alloc, file, &text),
+        Ok(None) => Ok(None),
+        Err(error) => unread_reason(file, error),
+    }
+}
+
+// The text of a file, unless it is taken for a capture, of which only the beginning is read: it may be long.
+fn hex_text<F: Files>(
+    alloc: Global,
+    file: &str,
+    each: bool,
+    files: &mut F,
+) -> Result<Option<Vec<u8>>, FileError> {
+    files.open(file)?;
+    if each {
+        return Ok(None);
+    }
+    let beginning = Beginning::read(alloc, files)?;
+    if is_capture(&beginning.bytes) {
+        return Ok(None);
+    }
+    Ok(Some(beginning.read_rest(files)?))
 }
 
 fn text_reason<'a>(

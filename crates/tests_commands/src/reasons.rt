@@ -59,6 +59,15 @@ fn texts(rt: HostRuntime) {
         "F: the last byte has one digit alone",
     );
     expect(&rt, alloc, line, S1.as_bytes(), "");
+    // A capture that is cut, and what is taken for one.
+    expect(
+        &rt,
+        alloc,
+        line,
+        b"\xd4\xc3\xb2\xa1\x02\0\x04\0\0\0\0\0",
+        "",
+    );
+    expect(&rt, alloc, "match|member='c'|F|--each", b"6c0", "");
 }
 
 #[test]
