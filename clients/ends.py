@@ -5,6 +5,14 @@ import re
 CAUSE = r"Slow|Monitor|NoMemory|Auth|NoHello|Message \w+|silence|hello|newcomers|unfinished|the bus ends"
 LINE = re.compile(rf"dbusfan: (?:(?P<name>:1\.\d+) (?P<passing>came|went)|(?P<ended>:1\.\d+|a newcomer) was ended: (?P<cause>{CAUSE})"
                   r"|(?P<other>no descriptor is left, newcomers are closed|\d+ lines are missing here))")
+NEWCOMER = "a newcomer"
+
+
+def what_happened(found):
+    """What a line says, without the name of whom it says it."""
+    if found["passing"]:
+        return found["passing"]
+    return f"{NEWCOMER} was ended: {found['cause']}" if found["ended"] == NEWCOMER else f"was ended: {found['cause']}"
 
 
 class Ends:
@@ -25,23 +33,22 @@ class Ends:
             if not found:
                 self.wrong.append(line)
                 continue
-            name, passing = found["name"] or found["ended"], found["passing"]
             if found["other"]:
                 self.counts["other lines"] += 1
-            elif passing == "came":
-                self.counts["came"] += 1
-                self.note(line, name not in here | gone or not is_whole)
+                continue
+            name, comes = found["name"] or found["ended"], found["passing"] == "came"
+            self.counts[what_happened(found)] += 1
+            if name == NEWCOMER:
+                continue
+            is_right = name not in here | gone if comes else name in here
+            if is_whole and not is_right:
+                self.wrong.append(line)
+            if comes:
                 here.add(name)
             else:
-                self.counts["went" if passing else f"a newcomer was ended: {found['cause']}" if name == "a newcomer" else f"was ended: {found['cause']}"] += 1
-                self.note(line, name == "a newcomer" or name in here or not is_whole)
                 here.discard(name)
                 gone.add(name)
         self.counts["killed with the bus"] += len(here)
-
-    def note(self, line, is_right):
-        if not is_right:
-            self.wrong.append(line)
 
     def report(self):
         """A line for each cause, and for each line that doesn't fit."""
