@@ -17,7 +17,7 @@ use Rattle.message_view.specs.declared.field.FieldType.TheVariants as types
 use Rattle.message_view.specs.declared.extent.Extent.{Extent}
 use Rattle.message_view.specs.Message.{Field}
 use Rattle.message_view.specs.Spelling.{fields_bytes}
-use Rattle.message_view.specs.Slots.{Slots, Extents, AreExtents, slots_of}
+use Rattle.message_view.specs.Slots.{Slots, Extents, AreExtents, no_slots, no_extents, slots_of}
 
 -- a field's content as the value that it is
 abbrev pub value_of : Content → Value
@@ -74,6 +74,15 @@ pub record IsFront (order : Order) (start : ℕ) (front : List Field) (fields : 
 abbrev pub KeepsNext : {X : Type 0} → Result X MsgError → Order → ℕ → List Field → Fields → At → Result (Field × At) MsgError → Type 0
 KeepsNext (Ok x) order start front fields tail read = (field : Field) × (read ≡ Ok (field, tail)) × IsFront order start (front ++ field ∷ []) fields tail
 KeepsNext (Err fault) order start front fields tail read = read ≡ Err fault
+
+-- what was filled in place, if it was
+abbrev pub filled : {X Y : Type 0} → Result X MsgError → Y → Result Y MsgError
+filled (Ok x) y = Ok y
+filled (Err fault) y = Err fault
+
+-- nothing is kept of any field
+abbrev pub KeepsNone : Fields → Type 0
+KeepsNone fields = (slots_shown fields ≡ no_slots) × (lying fields ≡ no_extents)
 
 -- what the next field of a valid array is, and what is then kept
 abbrev pub KeepsField : Order → ℕ → List Field → Fields → At → Result (Field × At) MsgError → Type 0

@@ -1,6 +1,6 @@
 // The known fields of a header.
 
-ghost use Rattle.std.specs.Prelude.{◌≡◌, ℕ, ◌+◌, ◌<◌, ◌≤◌, List, [], length, Some, None, option_map, is_some, slice_index_or, slice_set, IfOk, Ok};
+ghost use Rattle.std.specs.Prelude.{◌≡◌, ℕ, ◌+◌, ◌<◌, ◌≤◌, List, [], length, Some, None, option_map, is_some, slice_index_or, slice_set, IfOk, OnOk, Ok};
 ghost use Rattle.signature.specs.DataType.{DataType, TypeText, SigText, basic};
 ghost use Rattle.signature.specs.Alignment.{alignment_of};
 ghost use Rattle.message_value.specs.Reading.{At, inside, text_value_at, value_at};
@@ -12,7 +12,7 @@ ghost use Rattle.message_view.specs.Header.{type_code, has_required};
 ghost use Rattle.message_view.specs.Slots.{code_byte, slot_of, slots_of, no_slots, no_extents, AreExtents};
 ghost use Rattle.message_view.specs.Valid.{levels_in_field};
 ghost use Rattle.message_view.specs.Reading.{is_basic_of, content_at, code_fault, code_at, field_at, fields_from, types_in};
-ghost use Rattle.message_view.specs.FieldAnswers.{value_of, type_code_of, slots_shown, lies_in, lying, LiesBefore, IsFront, KeepsNext};
+ghost use Rattle.message_view.specs.FieldAnswers.{value_of, type_code_of, slots_shown, lies_in, lying, LiesBefore, IsFront, KeepsNext, KeepsNone, filled};
 
 use crate::content::Content;
 use crate::extent::Extent;
@@ -240,18 +240,24 @@ impl<'a> Fields<'a> {
         Ok(())
     }
 
-    /// Reads the fields of an array that begins at a place of the message.
-    pub(crate) fn read(order: Order, place: usize, bytes: &'a [u8]) -> Result<Fields<'a>, MsgError>
-        requires { place + length bytes.now ≤ 134217728 }
-        ensures read { Gives slots_shown slots_of result (fields_from (length bytes.entry.now) order [] (inside place bytes.entry.now)) }
-        ensures lie { (front : List Field) → fields_from (length bytes.entry.now) order [] (inside place bytes.entry.now) ≡ Ok front → IfOk result (λ fields. AreExtents order place front (lying fields)) }
+    /// Reads the fields of an array that begins at a place of the message, where none is kept yet. They are kept where they are
+    /// wanted, since they are wide to move.
+    pub(crate) fn read(
+        &mut self,
+        order: Order,
+        place: usize,
+        bytes: &'a [u8],
+    ) -> Result<(), MsgError>
+        requires room { place + length bytes.now ≤ 134217728 }
+        requires none { KeepsNone self.old }
+        ensures read { Gives slots_shown slots_of (filled result self.new) (fields_from (length bytes.entry.now) order [] (inside place bytes.entry.now)) }
+        ensures lie { (front : List Field) → fields_from (length bytes.entry.now) order [] (inside place bytes.entry.now) ≡ Ok front → OnOk result (AreExtents order place front (lying self.new)) }
     {
-        let mut fields = Fields::new();
         let mut cursor = Cursor::new(place, bytes, MsgError::ArrayLength);
         while !cursor.is_empty() {
-            fields.read_next(&mut cursor, order)?;
+            self.read_next(&mut cursor, order)?;
         }
-        Ok(fields)
+        Ok(())
     }
 
     /// The text of the body's signature; absent means empty.

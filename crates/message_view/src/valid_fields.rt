@@ -10,7 +10,7 @@ ghost use Rattle.message_view.specs.Message.{Field};
 ghost use Rattle.message_view.specs.Reading.{content_at, code_at, field_at, fields_from};
 ghost use Rattle.message_view.specs.Slots.{slots_of, AreExtents};
 ghost use Rattle.message_view.specs.Valid.{levels_in_field};
-ghost use Rattle.message_view.specs.FieldAnswers.{value_of, type_code_of, slots_shown, lying, LiesBefore, IsFront, KeepsField};
+ghost use Rattle.message_view.specs.FieldAnswers.{value_of, type_code_of, slots_shown, lying, LiesBefore, IsFront, KeepsField, KeepsNone};
 
 use crate::content::Content;
 use crate::extent::Extent;
@@ -147,20 +147,19 @@ impl<'a> Fields<'a> {
         self.put(code, content);
     }
 
-    /// The fields of an array that begins at a place of the message, and that is known to be valid.
+    /// Reads the fields of an array that begins at a place of the message, and that is known to be valid, where none is kept yet.
     #[inline(always)]
-    pub(crate) fn of_valid(order: Order, place: usize, bytes: &'a [u8]) -> Fields<'a>
+    pub(crate) fn read_valid(&mut self, order: Order, place: usize, bytes: &'a [u8])
         requires short { place + length bytes.now ≤ 134217728 }
+        requires none { KeepsNone self.old }
         requires valid { (front : List Field) × (fields_from (length bytes.now) order [] (inside place bytes.now) ≡ Ok front) }
-        ensures read { (front : List Field) → fields_from (length bytes.entry.now) order [] (inside place bytes.entry.now) ≡ Ok front → slots_shown result ≡ slots_of front }
-        ensures lie { (front : List Field) → fields_from (length bytes.entry.now) order [] (inside place bytes.entry.now) ≡ Ok front → AreExtents order place front (lying result) }
+        ensures read { (front : List Field) → fields_from (length bytes.entry.now) order [] (inside place bytes.entry.now) ≡ Ok front → slots_shown self.new ≡ slots_of front }
+        ensures lie { (front : List Field) → fields_from (length bytes.entry.now) order [] (inside place bytes.entry.now) ≡ Ok front → AreExtents order place front (lying self.new) }
     {
-        let mut fields = Fields::new();
         let mut cursor = Cursor::new(place, bytes, MsgError::ArrayLength);
         while !cursor.is_empty() {
-            fields.add_valid(&mut cursor, order);
+            self.add_valid(&mut cursor, order);
         }
-        fields
     }
 }
 

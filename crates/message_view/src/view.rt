@@ -9,7 +9,7 @@ ghost use Rattle.message_view.specs.Fixed.{whole_len};
 ghost use Rattle.message_view.specs.Reading.{framed_message, header_fault, arguments_at};
 ghost use Rattle.message_view.specs.Slots.{slots_of};
 ghost use Rattle.message_view.specs.HeaderAnswers.{HasHeader, ReadsHeader, ReadsFramed, Passes};
-ghost use Rattle.message_view.specs.FieldAnswers.{slots_shown};
+ghost use Rattle.message_view.specs.FieldAnswers.{slots_shown, KeepsNone, filled};
 ghost use Rattle.message_view.specs.FixedAnswers.{ReadsFixed};
 
 use crate::extent::{Extent, TextField};
@@ -21,12 +21,28 @@ use message_value::{Args, Cursor, MAX_LEVELS, MsgError, Order, are_zeros, check_
 use signature::Signature;
 use std::marker::Model;
 
-/// What a message has after its fixed part.
+/// What a message has after its fixed part. It is filled where it is wanted, since it is wide to move.
 #[derive(Drop)]
 pub(crate) struct Sections<'a> {
     pub(crate) fields: Fields<'a>,
     pub(crate) signature: Signature<'a>,
     pub(crate) body: &'a [u8],
+}
+
+impl<'a> Sections<'a> {
+    ghost use Rattle.message_view.specs.FieldAnswers.{KeepsNone};
+
+    /// Those that nothing was read into.
+    #[inline(always)]
+    fn new() -> Sections<'a>
+        ensures { KeepsNone result.fields }
+    {
+        Sections {
+            fields: Fields::new(),
+            signature: Signature::empty(),
+            body: &[],
+        }
+    }
 }
 
 /// The fault of what lies between the fields and the body, if there is one.
@@ -59,66 +75,70 @@ fn check_body(
     }
 }
 
-/// The fields of a message whose fixed part was read, and whose length is the one that it says, and its body, which
-/// isn't checked yet. Inline, so that a reading that checks the body moves the fields no more often.
+/// Finds the fields of a message whose fixed part was read, and whose length is the one that it says, and its body, which
+/// isn't checked yet.
 #[inline(always)]
-fn split_sections<'a>(fixed: &Fixed, bytes: &'a [u8]) -> Result<Sections<'a>, MsgError>
+fn split_sections<'a>(
+    fixed: &Fixed,
+    bytes: &'a [u8],
+    found: &mut Sections<'a>,
+) -> Result<(), MsgError>
     requires fixed { ReadsFixed (Ok (Some fixed.now)) bytes.now }
     requires whole { length bytes.now ≡ whole_len bytes.now }
-    ensures { ReadsHeader result fixed.now.kind bytes.entry.now }
+    requires none { KeepsNone found.old.fields }
+    ensures { ReadsHeader (filled result found.new) fixed.now.kind bytes.entry.now }
 {
     let fields_len = fixed.fields_len as usize;
     let (_, after_fixed) = bytes.split_at(FIXED_LEN);
     let (array, after_fields) = after_fixed.split_at(fields_len);
     let (skipped, body) = after_fields.split_at(padding(8, fields_len));
-    let fields = Fields::read(fixed.order, FIXED_LEN, array)?;
-    if let Some(fault) = header_fault(fixed.kind, &fields, skipped) {
+    found.fields.read(fixed.order, FIXED_LEN, array)?;
+    if let Some(fault) = header_fault(fixed.kind, &found.fields, skipped) {
         return Err(fault);
     }
-    let signature = fields.signature();
-    Ok(Sections {
-        fields,
-        signature,
-        body,
-    })
+    found.signature = found.fields.signature();
+    found.body = body;
+    Ok(())
 }
 
-/// The fields and the body of a valid message whose fixed part was read. What was checked isn't looked at again.
+/// Finds the fields and the body of a valid message whose fixed part was read. What was checked isn't looked at again.
 #[inline(always)]
-fn valid_sections<'a>(fixed: &Fixed, bytes: &'a [u8]) -> Sections<'a>
+fn valid_sections<'a>(fixed: &Fixed, bytes: &'a [u8], found: &mut Sections<'a>)
     requires fixed { ReadsFixed (Ok (Some fixed.now)) bytes.now }
     requires whole { length bytes.now ≡ whole_len bytes.now }
+    requires none { KeepsNone found.old.fields }
     requires valid { (m : Message) × Valid bytes.now m }
-    ensures { HasHeader result fixed.now.kind bytes.entry.now }
+    ensures { HasHeader found.new fixed.now.kind bytes.entry.now }
 {
     let fields_len = fixed.fields_len as usize;
     let (_, after_fixed) = bytes.split_at(FIXED_LEN);
     let (array, after_fields) = after_fixed.split_at(fields_len);
     let (_, body) = after_fields.split_at(padding(8, fields_len));
-    let fields = Fields::of_valid(fixed.order, FIXED_LEN, array);
-    let signature = fields.signature();
-    Sections {
-        fields,
-        signature,
-        body,
-    }
+    found.fields.read_valid(fixed.order, FIXED_LEN, array);
+    found.signature = found.fields.signature();
+    found.body = body;
 }
 
-/// The fields and the body of a message whose fixed part was read, and whose length is the one that it says.
-fn sections_of_frame<'a>(fixed: &Fixed, bytes: &'a [u8]) -> Result<Sections<'a>, MsgError>
+/// Finds the fields and the body of a message whose fixed part was read, and whose length is the one that it says.
+fn sections_of_frame<'a>(
+    fixed: &Fixed,
+    bytes: &'a [u8],
+    found: &mut Sections<'a>,
+) -> Result<(), MsgError>
     requires fixed { ReadsFixed (Ok (Some fixed.now)) bytes.now }
     requires whole { length bytes.now ≡ whole_len bytes.now }
-    ensures { ReadsFramed result fixed.now.kind bytes.entry.now (framed_message bytes.entry.now) }
+    requires none { KeepsNone found.old.fields }
+    ensures { ReadsFramed (filled result found.new) fixed.now.kind bytes.entry.now (framed_message bytes.entry.now) }
 {
-    let sections = split_sections(fixed, bytes)?;
-    let body = sections.body;
+    split_sections(fixed, bytes, found)?;
+    let body = found.body;
     let place = bytes.len() - body.len();
     check_body(
         fixed.order,
-        &sections.signature,
+        &found.signature,
         Cursor::new(place, body, MsgError::Short),
     )?;
-    Ok(sections)
+    Ok(())
 }
 
 /// A slice of bytes has elements below 256.
@@ -130,13 +150,11 @@ fn are_bytes(bytes: &[u8])
 #[derive(Drop)]
 pub struct View<'a> {
     bytes: &'a [u8],
-    body: &'a [u8],
     order: Order,
     kind: Kind,
     flags: u8,
     serial: u32,
-    fields: Fields<'a>,
-    signature: Signature<'a>,
+    sections: Sections<'a>,
 }
 
 impl<'a> Model for View<'a> {
@@ -150,7 +168,7 @@ impl<'a> Model for View<'a> {
 
     ghost view = { λ v. v.bytes.now };
 
-    ghost invariant = { λ v. IsKept v.bytes.now v.body.now v.signature (record { order = v.order; kind = v.kind; flags = v.flags; serial = v.serial; texts = map text_in (slots_shown v.fields); numbers = map number_in (slots_shown v.fields); extents = extents_in (lying v.fields) }) };
+    ghost invariant = { λ v. IsKept v.bytes.now v.sections.body.now v.sections.signature (record { order = v.order; kind = v.kind; flags = v.flags; serial = v.serial; texts = map text_in (slots_shown v.sections.fields); numbers = map number_in (slots_shown v.sections.fields); extents = extents_in (lying v.sections.fields) }) };
 }
 
 impl<'a> View<'a> {
@@ -171,13 +189,11 @@ impl<'a> View<'a> {
     {
         View {
             bytes,
-            body: sections.body,
             order: fixed.order,
             kind: fixed.kind,
             flags: fixed.flags,
             serial: fixed.serial,
-            fields: sections.fields,
-            signature: sections.signature,
+            sections,
         }
     }
 
@@ -195,7 +211,8 @@ impl<'a> View<'a> {
         if bytes.len() > len {
             return Err(MsgError::Trailing);
         }
-        let sections = sections_of_frame(&fixed, bytes)?;
+        let mut sections = Sections::new();
+        sections_of_frame(&fixed, bytes, &mut sections)?;
         Ok(View::of_sections(bytes, &fixed, sections))
     }
 
@@ -225,7 +242,8 @@ impl<'a> View<'a> {
         let Ok(Some(fixed)) = Fixed::read(bytes) else {
             unreachable!()
         };
-        let sections = valid_sections(&fixed, bytes);
+        let mut sections = Sections::new();
+        valid_sections(&fixed, bytes, &mut sections);
         View::of_sections(bytes, &fixed, sections)
     }
 
@@ -272,7 +290,7 @@ impl<'a> View<'a> {
     fn text(&self, code: FieldCode) -> Option<&'a str>
         ensures { (m : Message) → Valid self.now m → option_map (λ text. text.now) result ≡ text_in (slice_index_or (slots_of m.fields) (slot_of code) None) }
     {
-        self.fields.text(code)
+        self.sections.fields.text(code)
     }
 
     /// The object path of the field PATH.
@@ -321,43 +339,43 @@ impl<'a> View<'a> {
     pub fn reply_serial(&self) -> Option<u32>
         ensures { (m : Message) → Valid self.now m → result ≡ reply_serial_of m }
     {
-        self.fields.number(FieldCode::ReplySerial)
+        self.sections.fields.number(FieldCode::ReplySerial)
     }
 
     /// Where the text of a field lies, if the field is there.
     pub fn extent(&self, field: TextField) -> Option<Extent>
         ensures { (m : Message) → Valid self.now m → result ≡ extent_of field m }
     {
-        self.fields.extent(field.code())
+        self.sections.fields.extent(field.code())
     }
 
     /// The bytes after the header and its padding: the arguments, with the padding between them.
     pub fn body(&self) -> &'a [u8]
         ensures { (m : Message) → Valid self.now m → result.now ≡ body_bytes m }
     {
-        self.body
+        self.sections.body
     }
 
     /// The signature of the body, which is empty where the message has no field SIGNATURE.
     pub fn signature(&self) -> &'a [u8]
         ensures { (m : Message) → Valid self.now m → SigText m.types result.now }
     {
-        self.signature.as_bytes()
+        self.sections.signature.as_bytes()
     }
 
     /// A cursor before the first argument.
     fn at_body(&self) -> Cursor<'a>
         ensures { result ≡ body_at self.now }
     {
-        let place = self.bytes.len() - self.body.len();
-        Cursor::new(place, self.body, MsgError::Short)
+        let place = self.bytes.len() - self.sections.body.len();
+        Cursor::new(place, self.sections.body, MsgError::Short)
     }
 
     /// The arguments, one after the other.
     pub fn args(&self) -> Args<'a>
         ensures { (m : Message) → Valid self.now m → result ≡ arguments_of m }
     {
-        Args::new(self.order, self.signature.again(), self.at_body())
+        Args::new(self.order, self.sections.signature.again(), self.at_body())
     }
 }
 

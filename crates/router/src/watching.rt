@@ -36,10 +36,16 @@ impl<B: Naming, M: Mailbox, R: Wait + Drop> Bus<B, M, R> {
     /// Shows a message to those who watch and whose rules hold of it, before it goes on. The number is that of its
     /// sender's connection; `None` is the bus. The lock of the bus is taken only where a rule asks for a sender by a name
     /// that is no unique one.
+    #[inline(always)]
     pub fn show(&self, rt: &impl Wait, alloc: Global, number: Option<u64>, bytes: &Bytes) {
-        if self.monitors.is_empty() {
-            return;
+        if !self.monitors.is_empty() {
+            self.show_to_monitors(rt, alloc, number, bytes);
         }
+    }
+
+    // It is a function of its own, since a function clears room for its values whenever it is called, and few buses are watched.
+    #[inline(never)]
+    fn show_to_monitors(&self, rt: &impl Wait, alloc: Global, number: Option<u64>, bytes: &Bytes) {
         let Ok(view) = View::read(bytes.as_slice()) else {
             return;
         };

@@ -271,13 +271,14 @@ impl<B: Naming, M: Mailbox> Session<B, M> {
         ensures takes { TakesMessage M.outbox_of context.now.shares self.old result self.new }
         ensures slow { IfErr result (λ error. IsShutIf self.new.peer error) }
     {
-        let view = match self.input.front() {
-            Ok(Some(view)) => view,
+        let len = match &self.input.front() {
+            Ok(Some(view)) => {
+                self.client.handle(context, lists, view)?;
+                view.raw().len()
+            }
             Ok(None) => return Ok(Step::Waits),
-            Err(fault) => return Err(SessionError::Message(fault)),
+            Err(fault) => return Err(SessionError::Message(*fault)),
         };
-        let len = view.raw().len();
-        self.client.handle(context, lists, &view)?;
         self.input.skip(len);
         Ok(Step::Done)
     }

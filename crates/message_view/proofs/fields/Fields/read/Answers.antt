@@ -4,7 +4,7 @@ use Rattle.message_view.proofs.Loop.{at_start, goes_on, stops, at_end, extents_e
 use Rattle.message_view.proofs.fields.Fields.read.Goals as goal
 
 pub loop-cursor-init : goal.loop-cursor-init
-loop-cursor-init c = rw c.new-cursor.ensures (at_start c.args.order _ _ c.new-fields.ensures.shows c.new-fields.ensures.lie (λ i. omega (arith, c.type_inv.bytes i)))
+loop-cursor-init c = rw c.new-cursor.ensures (at_start c.args.order _ _ c.requires.none.0 c.requires.none.1 (λ i. omega (arith, c.type_inv.bytes i)))
 
 pub loop-cursor-smaller : goal.loop-cursor-smaller
 loop-cursor-smaller c =

@@ -8,7 +8,7 @@ use Rattle.message_view.proofs.view.View.extent.Goals as goal
 pub returns : goal.returns
 returns c = λ m valid.
     let kept = kept_is c.self.inside.bytes.now c.args.self.now _ _ m _ c.self.invariant c.self.view_is valid in
-    let extents = lying c.self.inside.fields in
+    let extents = lying c.self.inside.sections.fields in
     c.extent.ensures
     ∙ ap (λ code. slice_index_or extents (slot_of code) None) c.code.ensures
     ∙ extent_kept extents m c.args.field (ap (λ k. k.extents) kept)

@@ -23,23 +23,23 @@ returns-then-bytes-len-2 c =
     let len = len_is c.in-Some.fixed c.args.bytes.now _ fixed.1 c.whole_len-len.ensures in
     whole_long c.args.bytes.now fixed.0 (omega arith)
 
-pub returns-in_err-sections : goal.returns-in_err-sections
-returns-in_err-sections c =
-    let p = err_from_is_err_and c.from_residual-in_err-sections.result c.from_residual-in_err-sections.ensures.1 in
+pub returns-in_err-sections_of_frame : goal.returns-in_err-sections_of_frame
+returns-in_err-sections_of_frame c =
+    let p = err_from_is_err_and c.from_residual-in_err-sections_of_frame.result c.from_residual-in_err-sections_of_frame.ensures.1 in
     let fixed = rw c.in-Some.is at c.in_ok-fixed.ensures in
     let len = len_is c.in-Some.fixed c.args.bytes.now _ fixed.1 c.whole_len-len.ensures in
-    rw (p.1, p.2) (whole_framed c.args.bytes.now _ fixed.0 len c.if-bytes-len.false c.if-bytes-len-2.false ∙ c.in_err-sections.ensures)
+    rw (p.1, p.2) (whole_framed c.args.bytes.now _ fixed.0 len c.if-bytes-len.false c.if-bytes-len-2.false ∙ c.in_err-sections_of_frame.ensures)
 
 pub of_sections-requires : goal.of_sections-requires
 of_sections-requires c =
     let fixed = rw c.in-Some.is at c.in_ok-fixed.ensures in
     let len = len_is c.in-Some.fixed c.args.bytes.now _ fixed.1 c.whole_len-len.ensures in
     let same = whole_framed c.args.bytes.now _ fixed.0 len c.if-bytes-len.false c.if-bytes-len-2.false in
-    kept_first c.in-Some.fixed c.in_ok-sections.sections c.args.bytes.now _ fixed.1 same c.in_ok-sections.ensures
+    kept_first c.in-Some.fixed c.sections_of_frame.new.found c.args.bytes.now _ fixed.1 same c.in_ok-sections_of_frame.ensures
 
 pub returns : goal.returns
 returns c =
     let fixed = rw c.in-Some.is at c.in_ok-fixed.ensures in
     let len = len_is c.in-Some.fixed c.args.bytes.now _ fixed.1 c.whole_len-len.ensures in
     let same = whole_framed c.args.bytes.now _ fixed.0 len c.if-bytes-len.false c.if-bytes-len-2.false in
-    (c.of_sections.ensures, (_, same ∙ c.in_ok-sections.ensures.2))
+    (c.of_sections.ensures, (_, same ∙ c.in_ok-sections_of_frame.ensures.2))

@@ -7,4 +7,4 @@ use Rattle.message_view.proofs.view.View.text.Goals as goal
 pub returns : goal.returns
 returns c = λ m valid.
     let kept = kept_is c.self.inside.bytes.now c.args.self.now _ _ m _ c.self.invariant c.self.view_is valid in
-    c.text.ensures ∙ text_kept (slots_shown c.self.inside.fields) (slots_of m.fields) _ (ap (λ k. k.texts) kept)
+    c.text.ensures ∙ text_kept (slots_shown c.self.inside.sections.fields) (slots_of m.fields) _ (ap (λ k. k.texts) kept)

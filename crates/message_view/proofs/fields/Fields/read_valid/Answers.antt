@@ -1,9 +1,9 @@
 use Rattle.std.proofs.Common.{sym, arith}
 use Rattle.message_view.proofs.Loop.{at_start, goes_on, next_read, extents_end, shows_end}
-use Rattle.message_view.proofs.fields.Fields.of_valid.Goals as goal
+use Rattle.message_view.proofs.fields.Fields.read_valid.Goals as goal
 
 pub loop-cursor-init : goal.loop-cursor-init
-loop-cursor-init c = rw c.new-cursor.ensures (at_start c.args.order _ _ c.new-fields.ensures.shows c.new-fields.ensures.lie (λ i. omega (arith, c.type_inv.bytes i)))
+loop-cursor-init c = rw c.new-cursor.ensures (at_start c.args.order _ _ c.requires.none.0 c.requires.none.1 (λ i. omega (arith, c.type_inv.bytes i)))
 
 pub add_valid-requires : goal.add_valid-requires
 add_valid-requires c =
