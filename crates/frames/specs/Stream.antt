@@ -31,6 +31,10 @@ IsUnfinished rest = (framing rest ≡ Ok None) ⊎ ((len : ℕ) × (framing rest
 abbrev pub IsFault : List ℕ → MsgError → Type 0
 IsFault rest fault = (framing rest ≡ Err fault) ⊎ ((len : ℕ) × (framing rest ≡ Ok (Some len)) × (len ≤ length rest) × (message_at (take len rest) ≡ Err fault))
 
+-- the first bytes, as many as the next message is long by its fixed part
+abbrev pub IsFrame : List ℕ → List ℕ → Type 0
+IsFrame rest frame = (len : ℕ) × (framing rest ≡ Ok (Some len)) × (len ≤ length rest) × (frame ≡ take len rest)
+
 -- what comes after the messages
 abbrev pub EndsIn : List ℕ → Option MsgError → Type 0
 EndsIn rest None = IsUnfinished rest

@@ -3,7 +3,7 @@
 #![tactic(auto)]
 
 mod error;
-mod front;
+mod frame;
 mod laws;
 mod stream;
 

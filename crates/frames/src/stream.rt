@@ -2,10 +2,11 @@
 
 ghost use Rattle.std.specs.Prelude.{◌≡◌, ◌==◌, ◌++◌, ◌≤◌, ℕ, List, [], None, Some, Err, length, drop, IfOk, IfErr, IfSome, IfNone, IsOk, OnOk, OnErr};
 ghost use Rattle.message_value.specs.declared.error.MsgError.{MsgError};
-ghost use Rattle.frames.specs.Stream.{IsMessage, BeginsWithMessage, IsUnfinished, IsFault};
+ghost use Rattle.message_view.specs.Reading.{message_at};
+ghost use Rattle.frames.specs.Stream.{IsMessage, BeginsWithMessage, IsFrame, IsUnfinished, IsFault};
 
 use crate::error::FrameError;
-use crate::front::front_of;
+use crate::frame::frame_of;
 use bytes::{Bytes, BytesMut};
 use message_view::{MsgError, View};
 use std::alloc::Global;
@@ -70,6 +71,29 @@ impl Frames {
         Ok(())
     }
 
+    /// The bytes of the next message, lent where they lie, by the length that its fixed part says; `None` where they aren't all
+    /// there. They stay the next ones until `skip`. Whether they spell a message is for `View::read` to say.
+    ///
+    /// # Errors
+    ///
+    /// The fault of the fixed part in the message's place, or the one that `next` answered.
+    pub fn frame(&self) -> Result<Option<&[u8]>, MsgError>
+        ensures frame { IfOk result (λ front. IfSome front (λ frame. (self.now.fault ≡ None) × IsFrame self.now.unread frame.now)) }
+        // They come first.
+        ensures first { IfOk result (λ front. IfSome front (λ frame. (rest : List ℕ) × (self.now.unread ≡ frame.now ++ rest))) }
+        // A fault of theirs is the stream's.
+        ensures inside { IfOk result (λ front. IfSome front (λ frame. (fault : MsgError) → message_at frame.now ≡ Err fault → IsFault self.now.unread fault)) }
+        ensures unfinished { IfOk result (λ front. IfNone front ((self.now.fault ≡ None) × IsUnfinished self.now.unread)) }
+        ensures none { IfOk result (λ front. IfNone front (BeginsWithMessage self.now.unread → ⊥)) }
+        ensures fault { IfErr result (λ fault. self.now.fault ≡ None → IsFault self.now.unread fault) }
+        ensures for_ever { (fault : MsgError) → self.now.fault ≡ Some fault → result ≡ Err fault }
+    {
+        match self.fault {
+            Some(fault) => Err(fault),
+            None => frame_of(self.unread.as_slice()),
+        }
+    }
+
     /// The next message, lent where it lies; `None` where no whole message is there and more bytes are needed. It stays
     /// the next one until `skip`.
     ///
@@ -83,9 +107,12 @@ impl Frames {
         ensures fault { IfErr result (λ fault. self.now.fault ≡ None → IsFault self.now.unread fault) }
         ensures for_ever { (fault : MsgError) → self.now.fault ≡ Some fault → result ≡ Err fault }
     {
-        match self.fault {
-            Some(fault) => Err(fault),
-            None => front_of(self.unread.as_slice()),
+        let Some(frame) = self.frame()? else {
+            return Ok(None);
+        };
+        match View::read(frame) {
+            Ok(view) => Ok(Some(view)),
+            Err(fault) => Err(fault),
         }
     }
 
@@ -115,7 +142,7 @@ impl Frames {
         Ok(Some(message))
     }
 
-    /// Drops the first `len` bytes, as those of the message that `front` lent.
+    /// Drops the first `len` bytes, as those of the message that `frame` or `front` lent.
     pub fn skip(&mut self, len: usize)
         requires no_fault { self.old.fault ≡ None }
         requires there { len ≤ length self.old.unread }

@@ -87,6 +87,16 @@ impl Rule {
         self.eavesdrops
     }
 
+    /// The same conditions, of messages to others too.
+    pub fn eavesdropping(self) -> Rule
+        ensures { result ≡ record self { eavesdrops = true } }
+    {
+        Rule {
+            conditions: self.conditions,
+            eavesdrops: true,
+        }
+    }
+
     /// Whether the rule holds of a message. `owns` says whether the message's sender is the primary owner of the rule's
     /// sender name.
     pub fn holds(&self, view: &View<'_>, owns: bool) -> bool

@@ -20,7 +20,6 @@ use bus_messages::{Body, BuildError, Bytes, ErrorName, UniqueName, name_lost};
 use match_rule::Rule;
 use message_view::View;
 use router::{BusError, Mailbox, Naming, RouteLists};
-use rule_text::rule_text;
 use std::alloc::Global;
 use std::sync::Wait;
 
@@ -162,28 +161,15 @@ impl<B: Naming, M: Mailbox> Peer<B, M> {
 fn read_rules(alloc: Global, texts: &[&str]) -> Result<Vec<Rule>, Refused> {
     let mut rules = Vec::with_capacity(alloc, texts.len())?;
     for text in texts {
-        rules.push(read_open_rule(alloc, text)?)?;
+        rules.push(read_rule(alloc, text)?)?;
     }
     Ok(rules)
 }
 
 /// A rule of a monitor, which is of messages to others too, whatever it says of that itself.
-fn read_open_rule(alloc: Global, text: &str) -> Result<Rule, Refused> {
-    let rule = read_rule(alloc, text)?;
-    if rule.eavesdrops() {
-        return Ok(rule);
-    }
-    let mut text = rule_text(alloc, &rule)?;
-    if !text.is_empty() {
-        text.push_str(",")?;
-    }
-    text.push_str("eavesdrop='true'")?;
-    read_rule(alloc, text.as_str())
-}
-
 fn read_rule(alloc: Global, text: &str) -> Result<Rule, Refused> {
     match Rule::read(alloc, text) {
-        Ok(rule) => Ok(rule),
+        Ok(rule) => Ok(rule.eavesdropping()),
         Err(fault) => Err(Refused::from(BusError::of_text(fault))),
     }
 }

@@ -15,7 +15,7 @@ use crate::talk::Talk;
 use auth::Admission;
 use crossbeam_utils::rule::Protocol;
 use frames::Frames;
-use message_view::MsgError;
+use message_view::{MsgError, View};
 use peers::{
     AllInstructions, Bus, Command, Context, Identity, Mailbox, Naming, Published, RouteLists,
     Shares, Shown, StateReader,
@@ -271,14 +271,17 @@ impl<B: Naming, M: Mailbox> Session<B, M> {
         ensures takes { TakesMessage M.outbox_of context.now.shares self.old result self.new }
         ensures slow { IfErr result (λ error. IsShutIf self.new.peer error) }
     {
-        let len = match &self.input.front() {
-            Ok(Some(view)) => {
-                self.client.handle(context, lists, view)?;
-                view.raw().len()
-            }
+        let frame = match self.input.frame() {
+            Ok(Some(frame)) => frame,
             Ok(None) => return Ok(Step::Waits),
-            Err(fault) => return Err(SessionError::Message(*fault)),
+            Err(fault) => return Err(SessionError::Message(fault)),
         };
+        let len = frame.len();
+        // The view is looked at where it was read, since it is wide to move.
+        match &View::read(frame) {
+            Ok(view) => self.client.handle(context, lists, view)?,
+            Err(fault) => return Err(SessionError::Message(*fault)),
+        }
         self.input.skip(len);
         Ok(Step::Done)
     }
