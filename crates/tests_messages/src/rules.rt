@@ -38,3 +38,11 @@ fn numbers_of_arguments(rt: HostRuntime) {
     let none = ArgNumber::new(64).is_none();
     assert!(rt; none);
 }
+
+// What it says of eavesdropping itself is passed over.
+#[test]
+fn of_messages_to_others_too(rt: HostRuntime) {
+    let rule = read_rule(&rt, rt.alloc(), "member='c',eavesdrop='false'").eavesdropping();
+    let same = rule == read_rule(&rt, rt.alloc(), "eavesdrop='true',member='c'");
+    assert!(rt; same);
+}

@@ -118,3 +118,18 @@ fn front_stays_until_it_is_skipped(rt: HostRuntime) {
     expect_signal(&rt, &mut frames);
     expect_none(&rt, &mut frames);
 }
+
+// A frame is there by its length alone. What it spells is looked at where it is read.
+#[test]
+fn frame_of_a_damaged_message(rt: HostRuntime) {
+    let damaged = damaged_s1();
+    let mut frames = Frames::new(rt.alloc());
+    feed(&rt, &mut frames, &damaged[..63]);
+    assert_eq!(rt; frames.frame(), Ok(None));
+    feed(&rt, &mut frames, &damaged[63..]);
+    feed(&rt, &mut frames, S1);
+    match frames.frame() {
+        Ok(Some(frame)) => assert_eq!(rt; frame, damaged.as_slice()),
+        _ => panic!(rt; "no frame"),
+    }
+}
