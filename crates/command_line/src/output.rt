@@ -4,6 +4,7 @@ ghost use Rattle.std.specs.Prelude.{◌≡◌, false};
 
 use crate::error::Fault;
 use crate::writer::Writer;
+use std::alloc::Global;
 
 /// A writer, and whether a call of it has failed.
 #[derive(Drop)]
@@ -39,11 +40,12 @@ impl<W: Writer> Output<W> {
         }
     }
 
-    /// Writes a line for people, which says more of a fault, after the fault's own.
-    pub fn put_reason(&mut self, reason: &str) {
-        self.put(b"  ");
-        self.put(reason.as_bytes());
-        self.put(b"\n");
+    /// Writes a line for people, which says more of a fault, after the fault's own, if there is memory for it. The line is
+    /// written as a whole.
+    pub fn put_reason(&mut self, alloc: Global, reason: &str) {
+        if let Ok(line) = format!(in alloc; "  {reason}\n") {
+            self.put(line.as_bytes());
+        }
     }
 
     /// Writes the line of a fault and flushes it. The line is written as a whole, so that no other program's text comes

@@ -55,9 +55,9 @@ fn explain<'a, F: Files, E: Writer>(
     err: &mut Output<E>,
 ) {
     match reason_for(alloc, words, files) {
-        Ok(Some(reason)) => err.put_reason(reason.as_str()),
+        Ok(Some(reason)) => err.put_reason(alloc, reason.as_str()),
         Ok(None) if status == Fault::Usage.status() => {
-            err.put_reason("these words don't go together; see dbusfan --help");
+            err.put_reason(alloc, "these words don't go together; see dbusfan --help");
         }
         _ => {}
     }

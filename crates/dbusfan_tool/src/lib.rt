@@ -18,6 +18,7 @@ mod program;
 mod reasons;
 mod report;
 mod running;
+mod sentences;
 mod tally;
 mod wording;
 

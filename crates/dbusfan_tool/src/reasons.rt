@@ -1,12 +1,26 @@
 // What is said to people of words and texts that were refused.
 
 use crate::beginning::Beginning;
+use crate::sentences::{of_code, of_message, of_program, of_rule};
+use bpf_code::CodeError;
+use bpf_text::assemble_bytes;
+use bpf_verify::{VerifyError, verify};
 use captures::is_capture;
 use command_line::{CommandRow, FileError, Files, HexError, decode, fault_of};
 use match_key::RuleError;
 use match_rule::Rule;
+use message_value::MsgError;
+use message_view::View;
 use std::alloc::{AllocError, Global};
 use std::fmt;
+
+/// What a command judges of a program's file.
+#[derive(Clone, Copy)]
+enum Judged {
+    Text,
+    /// Whether the program that the text names is accepted, too.
+    Program,
+}
 
 /// What is wrong with a text or a file.
 #[derive(Clone, Copy)]
@@ -25,6 +39,21 @@ enum Reason<'a> {
     },
     /// The last byte of a file's hexadecimal text has one digit alone.
     HalfByte(&'a str),
+    /// The bytes that a file's hexadecimal text names are no message.
+    Message {
+        file: &'a str,
+        fault: MsgError,
+    },
+    /// A file's text names no program.
+    Code {
+        file: &'a str,
+        fault: CodeError,
+    },
+    /// The program that a file's text names is refused.
+    Program {
+        file: &'a str,
+        fault: VerifyError,
+    },
     Unreadable(&'a str),
 }
 
@@ -33,32 +62,37 @@ impl<'a> fmt::Display for Reason<'a> {
         match self {
             Reason::Rule { place, key, fault } => {
                 write!(f, "rule, at {place}: ")?;
-                write_fault(f, key, *fault)
+                of_rule(f, key, *fault)
             }
             Reason::NoDigit { file, line, column } => write!(
                 f,
                 "{file}, line {line}, column {column}: not a hexadecimal digit"
             ),
             Reason::HalfByte(file) => write!(f, "{file}: the last byte has one digit alone"),
+            Reason::Message { file, fault } => write!(f, "{file}: {}", of_message(*fault)),
+            Reason::Code { file, fault } => {
+                write_place(f, file, "line", fault.place())?;
+                f.write_str(of_code(*fault))
+            }
+            Reason::Program { file, fault } => {
+                write_place(f, file, "instruction", fault.place())?;
+                f.write_str(of_program(*fault))
+            }
             Reason::Unreadable(file) => write!(f, "{file}: it isn't there, or can't be read"),
         }
     }
 }
 
-fn write_fault<W: fmt::Write>(
+// A file, and the place in it that is at fault, where there is one.
+fn write_place<W: fmt::Write>(
     f: &mut fmt::Formatter<W>,
-    key: &str,
-    fault: RuleError,
+    file: &str,
+    of_what: &str,
+    place: Option<usize>,
 ) -> fmt::Result {
-    match fault {
-        RuleError::TooLong => f.write_str("a rule has at most 1,024 bytes"),
-        RuleError::UnknownKey => write!(f, "there is no key {key}"),
-        RuleError::KeyTwice => write!(f, "{key} is given twice"),
-        RuleError::BadValue => write!(f, "this is no value of {key}"),
-        RuleError::Unquoted => write!(f, "the value of {key} isn't closed"),
-        RuleError::PathTwice => f.write_str("path and path_namespace exclude one another"),
-        RuleError::ArgNumber => write!(f, "{key} isn't one of arg0 to arg63"),
-        RuleError::NoMemory => f.write_str("there is no memory"),
+    match place {
+        Some(place) => write!(f, "{file}, {of_what} {place}: "),
+        None => write!(f, "{file}: "),
     }
 }
 
@@ -90,13 +124,12 @@ pub fn reason_for<'a, F: Files>(
                 each,
                 ..
             },
-        ) => match program_reason(alloc, program, files)? {
+        ) => match program_reason(alloc, program, Judged::Program, files)? {
             Some(reason) => Some(reason),
             None => message_reason(alloc, file, each, files)?,
         },
-        Some(CommandRow::Asm { file } | CommandRow::Check { file }) => {
-            program_reason(alloc, file, files)?
-        }
+        Some(CommandRow::Asm { file }) => program_reason(alloc, file, Judged::Text, files)?,
+        Some(CommandRow::Check { file }) => program_reason(alloc, file, Judged::Program, files)?,
     };
     match reason {
         Some(reason) => Ok(Some(reason.to_string(alloc)?)),
@@ -156,17 +189,32 @@ fn unread_reason<'a>(file: &'a str, error: FileError) -> Result<Option<Reason<'a
     }
 }
 
+// What is wrong with a file that has a program as assembler text.
 fn program_reason<'a, F: Files>(
     alloc: Global,
     file: &'a str,
+    judged: Judged,
     files: &mut F,
 ) -> Result<Option<Reason<'a>>, AllocError> {
     if file == "-" {
         return Ok(None);
     }
-    match files.read(alloc, file) {
-        Ok(_) => Ok(None),
-        Err(error) => unread_reason(file, error),
+    let text = match files.read(alloc, file) {
+        Ok(text) => text,
+        Err(error) => return unread_reason(file, error),
+    };
+    let program = match assemble_bytes(alloc, &text) {
+        Ok(program) => program,
+        Err(CodeError::NoMemory) => return Err(AllocError),
+        Err(fault) => return Ok(Some(Reason::Code { file, fault })),
+    };
+    match judged {
+        Judged::Text => Ok(None),
+        Judged::Program => match verify(program) {
+            Ok(_) => Ok(None),
+            Err((VerifyError::NoMemory, _)) => Err(AllocError),
+            Err((fault, _)) => Ok(Some(Reason::Program { file, fault })),
+        },
     }
 }
 
@@ -211,7 +259,10 @@ fn text_reason<'a>(
     text: &[u8],
 ) -> Result<Option<Reason<'a>>, AllocError> {
     match decode(alloc, text) {
-        Ok(_) => Ok(None),
+        Ok(bytes) => match View::read(&bytes) {
+            Ok(_) => Ok(None),
+            Err(fault) => Ok(Some(Reason::Message { file, fault })),
+        },
         Err(HexError::Memory) => Err(AllocError),
         Err(HexError::Hex) => match place_of_no_digit(text) {
             Some((line, column)) => Ok(Some(Reason::NoDigit { file, line, column })),

@@ -56,8 +56,9 @@ fn explain<E: Writer>(alloc: Global, words: &[&str], err: &mut Output<E>) {
         return;
     }
     match fault_of(alloc, whole.as_slice()) {
-        Ok(Some(reason)) => err.put_reason(reason.as_str()),
+        Ok(Some(reason)) => err.put_reason(alloc, reason.as_str()),
         Ok(None) => err.put_reason(
+            alloc,
             "these words don't go together, or don't say which messages; see dbusfan watch --help",
         ),
         Err(_) => {}

@@ -25,6 +25,9 @@ use std::time::Clock;
 /// The words that ask for this command's help.
 const HELP: [&str; 2] = ["serve", "--help"];
 
+/// The words that ask for its version.
+const VERSION: [&str; 2] = ["serve", "--version"];
+
 /// Serves a bus as the words after `serve` ask for, and answers the status that the program ends with: 0 once as many
 /// connections as they name were accepted and have ended, or standard input was closed where they ask for that, 3 for words
 /// that are no such options, 4 where the address can't be listened at, `out` can't be written or standard input can't be
@@ -72,8 +75,11 @@ where
         + Sync
         + Alloc,
 {
-    if asks_for_help(words) {
-        return help(alloc, out);
+    if has_one_of(words, "--help", "-h") {
+        return say_text(alloc, &HELP, out);
+    }
+    if has_one_of(words, "--version", "-V") {
+        return say_text(alloc, &VERSION, out);
     }
     match Options::read(words) {
         Ok(options) => serve_as_asked(rt, alloc, options, out, err),
@@ -81,12 +87,17 @@ where
     }
 }
 
-fn asks_for_help(words: &[&str]) -> bool {
-    words.iter().any(|word| *word == "--help" || *word == "-h")
+fn has_one_of(words: &[&str], long: &str, short: &str) -> bool {
+    words.iter().any(|word| *word == long || *word == short)
 }
 
-fn help<O: Writer>(alloc: Global, out: &mut Output<O>) -> Result<(), Refusal> {
-    match text_for(alloc, &HELP) {
+// Says the text that these words ask for.
+fn say_text<O: Writer>(
+    alloc: Global,
+    asked: &'static [&'static str],
+    out: &mut Output<O>,
+) -> Result<(), Refusal> {
+    match text_for(alloc, asked) {
         Ok(Some(text)) => say(text.as_bytes(), out),
         Ok(None) => Err(Refusal::no_help()),
         Err(_) => Err(Refusal::memory()),

@@ -1,6 +1,6 @@
 // What is wrong with words that no command takes.
 
-use crate::commands::COMMANDS;
+use crate::commands::{COMMANDS, Form};
 use crate::help::parse;
 use clap::error::ErrorKind;
 use std::alloc::{AllocError, Global};
@@ -53,7 +53,24 @@ fn push_pointer(line: &mut String, words: &[&str]) -> Result<(), AllocError> {
     line.push_str("--help")
 }
 
-/// The words with each `--option=value` before `--` as two words.
+// Whether some command has an option of this word that takes a value.
+fn takes_value(word: &str) -> bool {
+    let Some(name) = word.strip_prefix("--") else {
+        return false;
+    };
+    for command in &COMMANDS {
+        for argument in command.arguments {
+            if let Form::Value(_) = argument.form {
+                if argument.name == name {
+                    return true;
+                }
+            }
+        }
+    }
+    false
+}
+
+/// The words with each `--option=value` before `--` as two words, where the option takes a value.
 pub fn spread<'a>(alloc: Global, words: &[&'a str]) -> Result<Vec<&'a str>, AllocError> {
     let mut spread = Vec::new(alloc);
     let mut may_be_option = true;
@@ -62,7 +79,7 @@ pub fn spread<'a>(alloc: Global, words: &[&'a str]) -> Result<Vec<&'a str>, Allo
             may_be_option = false;
         }
         match word.split_once('=') {
-            Some((option, value)) if may_be_option && option.starts_with("--") => {
+            Some((option, value)) if may_be_option && takes_value(option) => {
                 spread.push(option)?;
                 spread.push(value)?;
             }

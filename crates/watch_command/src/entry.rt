@@ -10,6 +10,7 @@ use crate::options::Options;
 use crate::owners::Owners;
 use crate::plan::Plan;
 use crate::reading::show_capture;
+use crate::reasons::explain;
 use crate::selection::Selection;
 use crate::sink::Sink;
 use crate::style::{Device, Style};
@@ -23,6 +24,9 @@ use std::rt::{Clock, Env, Files as FileSystem};
 
 /// The words that ask for this command's help.
 const HELP: [&str; 2] = ["watch", "--help"];
+
+/// The words that ask for its version.
+const VERSION: [&str; 2] = ["watch", "--version"];
 
 /// Connects to a bus and shows each message of it that is wanted, as a line or as a record of a capture, or how many each
 /// of some rules takes; or does so with the messages of a capture. It answers the status that the program ends with: 0
@@ -49,7 +53,11 @@ where
 {
     match watch_words(rt, device, words, files, out, err) {
         Ok(()) => 0,
-        Err(fault) => fault.tell(rt.alloc(), err),
+        Err(fault) => {
+            let status = fault.tell(rt.alloc(), err);
+            explain(rt.alloc(), &fault, words, files, err);
+            status
+        }
     }
 }
 
@@ -69,8 +77,10 @@ where
         + Input
         + Net<Listener = TcpListener, Stream = TcpStream>,
 {
-    if let Some(&("--help" | "-h")) = words.first() {
-        return help(rt.alloc(), out);
+    match words.first() {
+        Some(&("--help" | "-h")) => return say_text(rt.alloc(), &HELP, out),
+        Some(&("--version" | "-V")) => return say_text(rt.alloc(), &VERSION, out),
+        _ => {}
     }
     let Some(options) = Options::read(rt.alloc(), words)? else {
         return Err(Fault::Tool(command_line::Fault::Usage));
@@ -193,8 +203,13 @@ fn unreadable() -> Fault {
     Fault::Tool(command_line::Fault::File)
 }
 
-fn help<O: Writer>(alloc: Global, out: &mut Output<O>) -> Result<(), Fault> {
-    let Some(text) = text_for(alloc, &HELP)? else {
+// Says the text that these words ask for.
+fn say_text<O: Writer>(
+    alloc: Global,
+    asked: &'static [&'static str],
+    out: &mut Output<O>,
+) -> Result<(), Fault> {
+    let Some(text) = text_for(alloc, asked)? else {
         return Err(Fault::Tool(command_line::Fault::Usage));
     };
     out.put(text.as_bytes());

@@ -14,6 +14,7 @@ mod options;
 mod owners;
 mod plan;
 mod reading;
+mod reasons;
 mod selection;
 mod shown_text;
 mod sink;

@@ -1,0 +1,81 @@
+// What is said to people of a fault.
+
+use bpf_code::CodeError;
+use bpf_verify::VerifyError;
+use match_key::RuleError;
+use message_value::MsgError;
+use std::fmt;
+
+/// Of a rule's part with this key.
+pub(crate) fn of_rule<W: fmt::Write>(
+    f: &mut fmt::Formatter<W>,
+    key: &str,
+    fault: RuleError,
+) -> fmt::Result {
+    match fault {
+        RuleError::TooLong => f.write_str("a rule has at most 1,024 bytes"),
+        RuleError::UnknownKey => write!(f, "there is no key {key}"),
+        RuleError::KeyTwice => write!(f, "{key} is given twice"),
+        RuleError::BadValue => write!(f, "this is no value of {key}"),
+        RuleError::Unquoted => write!(f, "the value of {key} isn't closed"),
+        RuleError::PathTwice => f.write_str("path and path_namespace exclude one another"),
+        RuleError::ArgNumber => write!(f, "{key} isn't one of arg0 to arg63"),
+        RuleError::NoMemory => f.write_str("there is no memory"),
+    }
+}
+
+/// Of the bytes of a message.
+pub(crate) fn of_message(fault: MsgError) -> &'static str {
+    match fault {
+        MsgError::Order => "the first byte is neither l nor B",
+        MsgError::Kind => "the kind of the message is 0",
+        MsgError::Version => "the version of the protocol isn't 1",
+        MsgError::Serial => "the serial, or the one that a reply answers, is 0",
+        MsgError::TooLarge => "the message would have more than 134,217,728 bytes",
+        MsgError::FieldCode => "a header field has the code 0, which no field has",
+        MsgError::FieldType => "a header field is of another type than it has to be",
+        MsgError::FieldTwice => "a header field comes a second time",
+        MsgError::FieldMissing => "a header field that messages of this kind need isn't there",
+        MsgError::BadName => "a path or a name has the wrong form",
+        MsgError::Padding => "a byte between two values isn't 0",
+        MsgError::BadBool => "a boolean is above 1",
+        MsgError::BadText => "a text isn't UTF-8, has a zero, or isn't ended by one",
+        MsgError::BadSignature => "a signature is none, or isn't allowed where it stands",
+        MsgError::ArrayLength =>
+            "an array has more than 67,108,864 bytes, or an item reaches beyond its array",
+        MsgError::Depth => "values are nested too deep",
+        MsgError::Short => "the bytes end before the message does",
+        MsgError::Trailing => "bytes come after the message, or after the last value of its body",
+        MsgError::UnixFds => "the message announces file descriptors",
+        MsgError::Reserved => "no message on a bus has this path or interface",
+    }
+}
+
+/// Of a program's text.
+pub(crate) fn of_code(fault: CodeError) -> &'static str {
+    match fault {
+        CodeError::Length => "the number of bytes isn't divisible by 8",
+        CodeError::Code(_) => "there is no such instruction",
+        CodeError::Line(_) => "this isn't a line of a program; see dbusfan-filter(7)",
+        CodeError::Label(_) => "a label names no instruction that it may name",
+        CodeError::FarJump(_) => "the jump is too far",
+        CodeError::NoMemory => "there is no memory",
+    }
+}
+
+/// Of a program.
+pub(crate) fn of_program(fault: VerifyError) -> &'static str {
+    match fault {
+        VerifyError::Empty => "there is no instruction",
+        VerifyError::TooMany => "there are more than 4,096 instructions",
+        VerifyError::Code(_) => "there is no such instruction",
+        VerifyError::ZeroDivisor(_) => "it divides by 0",
+        VerifyError::Shift(_) => "it shifts by 32 or more",
+        VerifyError::Scratch(_) => "scratch words are 0 to 15",
+        VerifyError::Jump(_) => "it jumps out of the program",
+        VerifyError::Last(_) => "the last instruction has to be a return",
+        VerifyError::Unset(_) => "a way to it doesn't store the scratch word that it reads",
+        VerifyError::Ancillary(_) => "it loads a word that isn't the message's",
+        VerifyError::NoMemory => "there is no memory",
+    }
+}
