@@ -8,8 +8,20 @@ use std::process::Abort;
 
 /// That this is said of words, divided by bars, where the message's file has this text.
 fn expect<R: Abort>(rt: &R, alloc: Global, line: &str, message: &[u8], said: &str) {
+    expect_of(rt, alloc, line, b"ret #1", message, said);
+}
+
+/// That this is said of words, divided by bars, where the program's file and the message's have these texts.
+fn expect_of<R: Abort>(
+    rt: &R,
+    alloc: Global,
+    line: &str,
+    program: &[u8],
+    message: &[u8],
+    said: &str,
+) {
     let words: Vec<&str> = line.split('|').collect(alloc).expect(rt, "memory");
-    let mut files = TwoFiles::new(b"ret #1", message);
+    let mut files = TwoFiles::new(program, message);
     match reason_for(alloc, words.as_slice(), &mut files) {
         Ok(Some(reason)) => assert_eq!(rt; reason.as_str(), said, "at {line}"),
         Ok(None) => assert_eq!(rt; "", said, "at {line}"),
@@ -71,6 +83,54 @@ fn texts(rt: HostRuntime) {
 }
 
 #[test]
+fn messages(rt: HostRuntime) {
+    for (text, said) in [
+        ("6c", "F: the bytes end before the message does"),
+        ("6d040001", "F: the first byte is neither l nor B"),
+        ("6c040002", "F: the version of the protocol isn't 1"),
+    ] {
+        expect(&rt, rt.alloc(), "match||F", text.as_bytes(), said);
+        expect(&rt, rt.alloc(), "run|P|F", text.as_bytes(), said);
+    }
+}
+
+#[test]
+fn programs(rt: HostRuntime) {
+    let alloc = rt.alloc();
+    for (program, said) in [
+        (
+            "ret #1\nnonsense",
+            "P, line 2: this isn't a line of a program; see dbusfan-filter(7)",
+        ),
+        (
+            "ja there\nret #1",
+            "P, line 1: a label names no instruction that it may name",
+        ),
+    ] {
+        for line in ["asm|P", "check|P", "run|P|F"] {
+            expect_of(&rt, alloc, line, program.as_bytes(), b"", said);
+        }
+    }
+    for (program, said) in [
+        ("", "P: there is no instruction"),
+        (
+            "ld #1",
+            "P, instruction 0: the last instruction has to be a return",
+        ),
+        ("div #0\nret #1", "P, instruction 0: it divides by 0"),
+        (
+            "ld #1\nld M[0]\nret a",
+            "P, instruction 1: a way to it doesn't store the scratch word that it reads",
+        ),
+    ] {
+        expect_of(&rt, alloc, "check|P", program.as_bytes(), b"", said);
+        expect_of(&rt, alloc, "run|P|F", program.as_bytes(), b"", said);
+        // `asm` takes what is refused, too.
+        expect_of(&rt, alloc, "asm|P", program.as_bytes(), b"", "");
+    }
+}
+
+#[test]
 fn files(rt: HostRuntime) {
     let said = "X: it isn't there, or can't be read";
     for line in ["match||X", "run|X|F", "run|P|X", "check|X", "asm|X"] {
@@ -90,6 +150,10 @@ fn words_of_no_row(rt: HostRuntime) {
             "the following required arguments were not provided: <RULE> <FILE>; see dbusfan match --help",
         ),
         (
+            "match|--owns=1|a|F",
+            "unexpected value '1' for '--owns' found; no more were expected; see dbusfan match --help",
+        ),
+        (
             "nonsense",
             "unrecognized subcommand 'nonsense'; see dbusfan --help",
         ),
@@ -100,8 +164,8 @@ fn words_of_no_row(rt: HostRuntime) {
 
 #[test]
 fn values_after_an_equals_sign(rt: HostRuntime) {
-    let words = ["run", "--edition=2", "P", "--", "--a=b"];
-    let wanted = ["run", "--edition", "2", "P", "--", "--a=b"];
+    let words = ["run", "--edition=2", "--each=no", "P", "--", "--a=b"];
+    let wanted = ["run", "--edition", "2", "--each=no", "P", "--", "--a=b"];
     match spread(rt.alloc(), &words) {
         Ok(found) => assert_eq!(rt; found.as_slice(), wanted.as_slice()),
         Err(_) => panic!(rt; "no memory"),

@@ -1,6 +1,6 @@
 // What the options come to: rules that are read and programs that are verified.
 
-ghost use Rattle.std.specs.Prelude.{◌≢◌, IfOk, IfErr};
+ghost use Rattle.std.specs.Prelude.{◌≡◌, ◌≢◌, IfOk, IfErr, true, if◌then◌else◌};
 ghost use Rattle.match_rule.specs.RuleTree.{RuleTree};
 ghost use Rattle.match_rule.specs.Grammar.{ReadsAs};
 
@@ -16,9 +16,6 @@ use command_line::Files;
 use match_rule::{Rule, RuleError};
 use std::alloc::Global;
 use summary::Edition;
-
-/// What stands before a monitor's rule, which is of messages to others too.
-const EAVESDROPPING: &str = "eavesdrop='true',";
 
 /// What the options come to.
 #[derive(Drop)]
@@ -99,10 +96,10 @@ fn rule_of(alloc: Global, text: &str, is_monitor: bool) -> Result<Rule, Fault> {
     Ok(read_rule(alloc, text, is_monitor).map_err(command_line::Fault::from)?)
 }
 
-/// Reads a rule. A monitor's is of messages to others too, unless it has `eavesdrop` itself.
+/// Reads a rule. A monitor's is of messages to others too, whatever it says of that itself.
 pub(crate) fn read_rule(alloc: Global, text: &str, is_monitor: bool) -> Result<Rule, RuleError>
-    // A text of which a rule is made reads as one.
-    ensures found { IfOk result (λ made. (rule : RuleTree) × ReadsAs text.now rule) }
+    // It is what the text reads as, but that a monitor's is of messages to others too.
+    ensures found { IfOk result (λ made. (rule : RuleTree) × ReadsAs text.now rule × (made ≡ (if is_monitor then record rule { eavesdrops = true } else rule))) }
     // A text that reads as a rule is refused for want of memory alone.
     ensures refused { (rule : RuleTree) → ReadsAs text.now rule → IfErr result (λ error. error ≢ RuleError.NoMemory → ⊥) }
 {
@@ -111,15 +108,10 @@ pub(crate) fn read_rule(alloc: Global, text: &str, is_monitor: bool) -> Result<R
         Err(error) => return Err(error),
     };
     if is_monitor {
-        let mut monitored = String::from_str(alloc, EAVESDROPPING).map_err(
-            |_| RuleError::NoMemory,
-        )?;
-        monitored.push_str(text).map_err(|_| RuleError::NoMemory)?;
-        if let Ok(rule) = Rule::read(alloc, monitored.as_str()) {
-            return Ok(rule);
-        }
+        Ok(rule.eavesdropping())
+    } else {
+        Ok(rule)
     }
-    Ok(rule)
 }
 
 /// The rules of a file, one a line; lines that are empty or begin with `#` are passed over.
