@@ -144,6 +144,7 @@ impl<B: Naming, M: Mailbox> Session<B, M> {
     /// The connection that the next message asks the bus about, by a name that it owns. `None` where no such message is next. A
     /// client that has gone, and whose session hasn't ended, may still own names; whoever serves many sessions ends that one's
     /// first, so that clients see each other go in the order in which it happened.
+    #[inline(always)]
     pub fn next_subject(&mut self) -> Option<u64>
         ensures looked { HasLooked self.old self.new }
         ensures subject { IfSome result (λ number. IsNextSubject self.old.unread self.new.peer number) }
@@ -151,8 +152,18 @@ impl<B: Naming, M: Mailbox> Session<B, M> {
         if !self.talk.has_begun() || self.input.unread().get(1).copied() != Some(METHOD_CALL) {
             return None;
         }
-        match self.input.front() {
-            Ok(Some(view)) => self.client.subject_of(&view),
+        self.subject_of_call()
+    }
+
+    // It is a function of its own, since a function clears room for its values whenever it is called, and a view is wide. Most
+    // messages are no calls.
+    #[inline(never)]
+    fn subject_of_call(&mut self) -> Option<u64>
+        ensures looked { HasLooked self.old self.new }
+        ensures subject { IfSome result (λ number. IsNextSubject self.old.unread self.new.peer number) }
+    {
+        match &self.input.front() {
+            Ok(Some(view)) => self.client.subject_of(view),
             _ => None,
         }
     }
