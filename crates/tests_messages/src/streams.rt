@@ -119,17 +119,31 @@ fn front_stays_until_it_is_skipped(rt: HostRuntime) {
     expect_none(&rt, &mut frames);
 }
 
+/// That the next message isn't there by its length.
+fn expect_no_frame<R: Abort>(rt: &R, frames: &Frames) {
+    match frames.frame() {
+        Ok(None) => {}
+        _ => panic!(rt; "a frame or a fault"),
+    }
+}
+
+/// That the next message has these bytes, by its length.
+fn expect_frame<R: Abort>(rt: &R, frames: &Frames, bytes: &[u8]) {
+    match frames.frame() {
+        Ok(Some(frame)) => assert_eq!(rt; frame, bytes),
+        _ => panic!(rt; "no frame"),
+    }
+}
+
 // A frame is there by its length alone. What it spells is looked at where it is read.
 #[test]
 fn frame_of_a_damaged_message(rt: HostRuntime) {
     let damaged = damaged_s1();
     let mut frames = Frames::new(rt.alloc());
-    feed(&rt, &mut frames, &damaged[..63]);
-    assert_eq!(rt; frames.frame(), Ok(None));
-    feed(&rt, &mut frames, &damaged[63..]);
-    feed(&rt, &mut frames, S1);
-    match frames.frame() {
-        Ok(Some(frame)) => assert_eq!(rt; frame, damaged.as_slice()),
-        _ => panic!(rt; "no frame"),
+    for byte in &damaged {
+        expect_no_frame(&rt, &frames);
+        feed(&rt, &mut frames, &[*byte]);
     }
+    feed(&rt, &mut frames, S1);
+    expect_frame(&rt, &frames, &damaged);
 }
