@@ -154,6 +154,10 @@ fn words_of_no_row(rt: HostRuntime) {
             "unexpected value '1' for '--owns' found; no more were expected; see dbusfan match --help",
         ),
         (
+            "run|P|F|--edition|3",
+            "--edition 3: 1 or 2 is wanted; see dbusfan run --help",
+        ),
+        (
             "nonsense",
             "unrecognized subcommand 'nonsense'; see dbusfan --help",
         ),

@@ -9,7 +9,7 @@ use std::alloc::{AllocError, Global};
 /// far as the commands' arguments go.
 pub fn fault_of<'a>(alloc: Global, words: &'a [&'a str]) -> Result<Option<String>, AllocError> {
     let Err(error) = parse(alloc, words) else {
-        return Ok(None);
+        return value_fault(alloc, words);
     };
     match error.kind() {
         ErrorKind::DisplayHelp | ErrorKind::DisplayVersion => Ok(None),
@@ -53,21 +53,48 @@ fn push_pointer(line: &mut String, words: &[&str]) -> Result<(), AllocError> {
     line.push_str("--help")
 }
 
-// Whether some command has an option of this word that takes a value.
-fn takes_value(word: &str) -> bool {
-    let Some(name) = word.strip_prefix("--") else {
-        return false;
-    };
+// The name of its value, if a word is an option of some command that takes one.
+fn value_of(word: &str) -> Option<&'static str> {
+    let name = word.strip_prefix("--")?;
     for command in &COMMANDS {
         for argument in command.arguments {
-            if let Form::Value(_) = argument.form {
+            if let Form::Value(value) = argument.form {
                 if argument.name == name {
-                    return true;
+                    return Some(value);
                 }
             }
         }
     }
-    false
+    None
+}
+
+// What is wanted in the place of a word, if it can't be the value of this name.
+fn wanted_for(value: &str, word: &str) -> Option<&'static str> {
+    match value {
+        "N" if !word.parse::<u64>().is_ok_and(|number| number > 0) => Some("a number above 0"),
+        "1|2" if word != "1" && word != "2" => Some("1 or 2"),
+        _ => None,
+    }
+}
+
+// What is wrong with the first value that is none.
+fn value_fault(alloc: Global, words: &[&str]) -> Result<Option<String>, AllocError> {
+    let mut option = None;
+    for word in words {
+        if let Some((name, value)) = option {
+            if let Some(wanted) = wanted_for(value, word) {
+                let mut line = format!(in alloc; "{name} {word}: {wanted} is wanted")?;
+                push_pointer(&mut line, words)?;
+                return Ok(Some(line));
+            }
+            option = None;
+        } else if *word == "--" {
+            return Ok(None);
+        } else {
+            option = value_of(word).map(|value| (*word, value));
+        }
+    }
+    Ok(None)
 }
 
 /// The words with each `--option=value` before `--` as two words, where the option takes a value.
@@ -79,7 +106,7 @@ pub fn spread<'a>(alloc: Global, words: &[&'a str]) -> Result<Vec<&'a str>, Allo
             may_be_option = false;
         }
         match word.split_once('=') {
-            Some((option, value)) if may_be_option && takes_value(option) => {
+            Some((option, value)) if may_be_option && value_of(option).is_some() => {
                 spread.push(option)?;
                 spread.push(value)?;
             }
