@@ -1,9 +1,10 @@
-// What is said to people of a file that fails, or of a bus that can't be reached.
+// What is said to people of rules, programs and files that fail, or of a bus that can't be reached.
 
 use crate::error::Fault;
 use crate::options::Options;
 use crate::words::Key;
 use command_line::{Files, Output, Writer};
+use dbusfan_tool::reason_for;
 use std::alloc::{AllocError, Global};
 
 /// Says more of a fault, in a line for people after the one for programs, as far as memory allows.
@@ -32,6 +33,10 @@ fn reason_of<F: Files>(
         Fault::Socket => of_address(alloc, &options, "no bus answers there, or it has gone away"),
         Fault::Auth => of_address(alloc, &options, "this bus doesn't let this user in"),
         Fault::Tool(command_line::Fault::File) => of_files(alloc, &options, files),
+        Fault::Tool(command_line::Fault::Rule(_)) => of_rules(alloc, &options, files),
+        Fault::Tool(command_line::Fault::Code(_) | command_line::Fault::Program(_)) => {
+            of_program(alloc, &options, files)
+        }
         _ => Ok(None),
     }
 }
@@ -44,6 +49,68 @@ fn of_address(
     match options.address() {
         Some(address) => Ok(Some(format!(in alloc; "{address}: {reason}")?)),
         None => Ok(None),
+    }
+}
+
+// Of the first rule that is none, among the words or in a file.
+fn of_rules<F: Files>(
+    alloc: Global,
+    options: &Options<'_>,
+    files: &mut F,
+) -> Result<Option<String>, AllocError> {
+    for text in options.rules(alloc)? {
+        let reason = of_rule(alloc, text, files)?;
+        if reason.is_some() {
+            return Ok(reason);
+        }
+    }
+    match options.text_of(Key::Rules) {
+        Some(file) if file != "-" => of_rules_file(alloc, file, files),
+        _ => Ok(None),
+    }
+}
+
+// As `compile` says it.
+fn of_rule<F: Files>(
+    alloc: Global,
+    text: &str,
+    files: &mut F,
+) -> Result<Option<String>, AllocError> {
+    reason_for(alloc, &["compile", "--", text], files)
+}
+
+fn of_rules_file<F: Files>(
+    alloc: Global,
+    file: &str,
+    files: &mut F,
+) -> Result<Option<String>, AllocError> {
+    let Ok(bytes) = files.read(alloc, file) else {
+        return Ok(None);
+    };
+    let Ok(text) = String::from_utf8(bytes) else {
+        return Ok(None);
+    };
+    let mut number = 0u64;
+    for line in text.as_str().lines() {
+        number = number.wrapping_add(1);
+        if !line.is_empty() && !line.starts_with("#") {
+            if let Some(reason) = of_rule(alloc, line, files)? {
+                return Ok(Some(format!(in alloc; "{file}, line {number}: {reason}")?));
+            }
+        }
+    }
+    Ok(None)
+}
+
+// Of the program's file, as `check` says it.
+fn of_program<F: Files>(
+    alloc: Global,
+    options: &Options<'_>,
+    files: &mut F,
+) -> Result<Option<String>, AllocError> {
+    match options.text_of(Key::Program) {
+        Some(file) if !file.starts_with("-") => reason_for(alloc, &["check", file], files),
+        _ => Ok(None),
     }
 }
 
