@@ -72,7 +72,7 @@ impl Frames {
     }
 
     /// The bytes of the next message, lent where they lie, by the length that its fixed part says; `None` where they aren't all
-    /// there. They stay the next ones until `skip`. Whether they spell a message is for `View::read` to say.
+    /// there. They stay until `skip`. Whether they spell a message is for `View::read` to say.
     ///
     /// # Errors
     ///

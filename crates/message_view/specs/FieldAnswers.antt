@@ -76,9 +76,9 @@ KeepsNext (Ok x) order start front fields tail read = (field : Field) × (read �
 KeepsNext (Err fault) order start front fields tail read = read ≡ Err fault
 
 -- what was filled in place, if it was
-abbrev pub filled : {X Y : Type 0} → Result X MsgError → Y → Result Y MsgError
-filled (Ok x) y = Ok y
-filled (Err fault) y = Err fault
+abbrev pub in_place : {X Y : Type 0} → Result X MsgError → Y → Result Y MsgError
+in_place (Ok x) y = Ok y
+in_place (Err fault) y = Err fault
 
 -- nothing is kept of any field
 abbrev pub KeepsNone : Fields → Type 0

@@ -12,7 +12,7 @@ ghost use Rattle.message_view.specs.Header.{type_code, has_required};
 ghost use Rattle.message_view.specs.Slots.{code_byte, slot_of, slots_of, no_slots, no_extents, AreExtents};
 ghost use Rattle.message_view.specs.Valid.{levels_in_field};
 ghost use Rattle.message_view.specs.Reading.{is_basic_of, content_at, code_fault, code_at, field_at, fields_from, types_in};
-ghost use Rattle.message_view.specs.FieldAnswers.{value_of, type_code_of, slots_shown, lies_in, lying, LiesBefore, IsFront, KeepsNext, KeepsNone, filled};
+ghost use Rattle.message_view.specs.FieldAnswers.{value_of, type_code_of, slots_shown, lies_in, lying, LiesBefore, IsFront, KeepsNext, KeepsNone, in_place};
 
 use crate::content::Content;
 use crate::extent::Extent;
@@ -250,7 +250,7 @@ impl<'a> Fields<'a> {
     ) -> Result<(), MsgError>
         requires room { place + length bytes.now ≤ 134217728 }
         requires none { KeepsNone self.old }
-        ensures read { Gives slots_shown slots_of (filled result self.new) (fields_from (length bytes.entry.now) order [] (inside place bytes.entry.now)) }
+        ensures read { Gives slots_shown slots_of (in_place result self.new) (fields_from (length bytes.entry.now) order [] (inside place bytes.entry.now)) }
         ensures lie { (front : List Field) → fields_from (length bytes.entry.now) order [] (inside place bytes.entry.now) ≡ Ok front → OnOk result (AreExtents order place front (lying self.new)) }
     {
         let mut cursor = Cursor::new(place, bytes, MsgError::ArrayLength);

@@ -9,7 +9,7 @@ ghost use Rattle.message_view.specs.Fixed.{whole_len};
 ghost use Rattle.message_view.specs.Reading.{framed_message, header_fault, arguments_at};
 ghost use Rattle.message_view.specs.Slots.{slots_of};
 ghost use Rattle.message_view.specs.HeaderAnswers.{HasHeader, ReadsHeader, ReadsFramed, Passes};
-ghost use Rattle.message_view.specs.FieldAnswers.{slots_shown, KeepsNone, filled};
+ghost use Rattle.message_view.specs.FieldAnswers.{slots_shown, KeepsNone, in_place};
 ghost use Rattle.message_view.specs.FixedAnswers.{ReadsFixed};
 
 use crate::extent::{Extent, TextField};
@@ -86,7 +86,7 @@ fn split_sections<'a>(
     requires fixed { ReadsFixed (Ok (Some fixed.now)) bytes.now }
     requires whole { length bytes.now ≡ whole_len bytes.now }
     requires none { KeepsNone found.old.fields }
-    ensures { ReadsHeader (filled result found.new) fixed.now.kind bytes.entry.now }
+    ensures { ReadsHeader (in_place result found.new) fixed.now.kind bytes.entry.now }
 {
     let fields_len = fixed.fields_len as usize;
     let (_, after_fixed) = bytes.split_at(FIXED_LEN);
@@ -128,7 +128,7 @@ fn sections_of_frame<'a>(
     requires fixed { ReadsFixed (Ok (Some fixed.now)) bytes.now }
     requires whole { length bytes.now ≡ whole_len bytes.now }
     requires none { KeepsNone found.old.fields }
-    ensures { ReadsFramed (filled result found.new) fixed.now.kind bytes.entry.now (framed_message bytes.entry.now) }
+    ensures { ReadsFramed (in_place result found.new) fixed.now.kind bytes.entry.now (framed_message bytes.entry.now) }
 {
     split_sections(fixed, bytes, found)?;
     let body = found.body;
