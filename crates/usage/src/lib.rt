@@ -1,5 +1,5 @@
-//! Help for all commands, the version, and what is wrong with words that no command takes. The programs above use that `text_for` has a text only where some word asks
-//! for one.
+//! Help for all commands, the version, and what is wrong with words that no command takes. The programs above use that
+//! `text_for` has a text only where some word asks for one.
 #![tactic(auto)]
 
 mod commands;
