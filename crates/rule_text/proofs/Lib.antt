@@ -1,1 +1,3 @@
 pub mod Escaping
+pub mod Places
+pub mod Commas

@@ -1,5 +1,5 @@
-//! Match rules as texts. The layers above use that `rule_text` writes a rule's conditions in their order, each value in
-//! apostrophes.
+//! Match rules as texts. The layers above use that `rule_text` writes a rule's conditions in the order of their keys, each
+//! value in apostrophes.
 #![tactic(auto)]
 
 mod key_text;

@@ -24,13 +24,13 @@ fn check<R: Abort>(rt: &R, alloc: Global, text: &str, written: &str) {
 
 #[test]
 fn plain_keys(rt: HostRuntime) {
-    let text = "type='signal',sender='a.b',interface='c.d',member='E',path='/f',destination=':1.2'";
+    let text = "type='signal',interface='c.d',member='E',path='/f',sender='a.b',destination=':1.2'";
     check(&rt, rt.alloc(), text, text);
     check(
         &rt,
         rt.alloc(),
         "member=A,type=error",
-        "member='A',type='error'",
+        "type='error',member='A'",
     );
     check(&rt, rt.alloc(), "", "");
 }
@@ -43,7 +43,7 @@ fn values_in_apostrophes(rt: HostRuntime) {
         &rt,
         rt.alloc(),
         "arg1=\\',member=A",
-        "arg1=''\\''',member='A'",
+        "member='A',arg1=''\\'''",
     );
     check(&rt, rt.alloc(), "arg2='\\'", "arg2='\\'");
     check(&rt, rt.alloc(), "arg3=''", "arg3=''");
@@ -65,4 +65,21 @@ fn eavesdropping(rt: HostRuntime) {
     );
     check(&rt, rt.alloc(), "eavesdrop='true'", "eavesdrop='true'");
     check(&rt, rt.alloc(), "eavesdrop='false',member=A", "member='A'");
+}
+
+// As dbus-daemon 1.14 tells it.
+#[test]
+fn keys_in_their_order(rt: HostRuntime) {
+    check(
+        &rt,
+        rt.alloc(),
+        "arg2='z',arg0path='/p/',arg1='y',eavesdrop='true',destination=':1.5',sender='a.b',path='/x',member='c',interface='i.f',type='signal'",
+        "type='signal',interface='i.f',member='c',path='/x',sender='a.b',destination=':1.5',eavesdrop='true',arg0path='/p/',arg1='y',arg2='z'",
+    );
+    check(
+        &rt,
+        rt.alloc(),
+        "arg0namespace='q.r',path_namespace='/n'",
+        "path_namespace='/n',arg0namespace='q.r'",
+    );
 }
