@@ -26,8 +26,41 @@ pub(crate) enum Form {
     Words,
     /// `--name`.
     Flag,
-    /// `--name VALUE`, by the name of its value.
-    Value(&'static str),
+    /// `--name VALUE`.
+    Value(Value),
+}
+
+/// What the value of an option is.
+#[derive(Clone, Copy)]
+pub(crate) enum Value {
+    /// A text, by the name that help has for it.
+    Text(&'static str),
+    /// A number above 0.
+    Number,
+    /// An edition of images, 1 or 2.
+    Edition,
+}
+
+impl Value {
+    /// Its name, as help shows it.
+    pub(crate) fn name(self) -> &'static str {
+        match self {
+            Value::Text(name) => name,
+            Value::Number => "N",
+            Value::Edition => "1|2",
+        }
+    }
+
+    /// What is wanted in the place of a word that can't be one.
+    pub(crate) fn wanted_for(self, word: &str) -> Option<&'static str> {
+        match self {
+            Value::Text(_) => None,
+            Value::Number if word.parse::<u64>().is_ok_and(|number| number > 0) => None,
+            Value::Number => Some("a number above 0"),
+            Value::Edition if word == "1" || word == "2" => None,
+            Value::Edition => Some("1 or 2"),
+        }
+    }
 }
 
 pub(crate) static COMMANDS: [CommandHelp; 7] = [
@@ -62,13 +95,13 @@ pub(crate) static COMMANDS: [CommandHelp; 7] = [
         arguments: &[
             ArgumentHelp {
                 name: "listen",
-                form: Form::Value("ADDRESS"),
+                form: Form::Value(Value::Text("ADDRESS")),
                 is_required: false,
                 text: "Where to listen, once for each place (unix:path=P, tcp:host=H,port=P); else the user's place",
             },
             ArgumentHelp {
                 name: "guid",
-                form: Form::Value("GUID"),
+                form: Form::Value(Value::Text("GUID")),
                 is_required: false,
                 text: "The bus's id, 32 hexadecimal digits; else random ones",
             },
@@ -104,7 +137,7 @@ pub(crate) static COMMANDS: [CommandHelp; 7] = [
             },
             ArgumentHelp {
                 name: "connections",
-                form: Form::Value("N"),
+                form: Form::Value(Value::Number),
                 is_required: false,
                 text: "End after N connections have come and gone",
             },
@@ -116,7 +149,7 @@ pub(crate) static COMMANDS: [CommandHelp; 7] = [
             },
             ArgumentHelp {
                 name: "limit",
-                form: Form::Value("NAME=N"),
+                form: Form::Value(Value::Text("NAME=N")),
                 is_required: false,
                 text: "Sets a limit: rules, instructions, all-instructions, names, calls, messages, bytes, unfinished, silence, clients, newcomers, hello",
             },
@@ -152,7 +185,7 @@ pub(crate) static COMMANDS: [CommandHelp; 7] = [
             },
             ArgumentHelp {
                 name: "program",
-                form: Form::Value("FILE"),
+                form: Form::Value(Value::Text("FILE")),
                 is_required: false,
                 text: "Only messages that this program accepts, which is assembler text and runs here",
             },
@@ -177,13 +210,13 @@ pub(crate) static COMMANDS: [CommandHelp; 7] = [
             },
             ArgumentHelp {
                 name: "rules",
-                form: Form::Value("FILE"),
+                form: Form::Value(Value::Text("FILE")),
                 is_required: false,
                 text: "Says at the end how many messages each rule takes, of a file with one a line",
             },
             ArgumentHelp {
                 name: "of",
-                form: Form::Value("NAME"),
+                form: Form::Value(Value::Text("NAME")),
                 is_required: false,
                 text: "Says it of the rules that a connection has at the bus, which may want root",
             },
@@ -213,25 +246,25 @@ pub(crate) static COMMANDS: [CommandHelp; 7] = [
             },
             ArgumentHelp {
                 name: "count",
-                form: Form::Value("N"),
+                form: Form::Value(Value::Number),
                 is_required: false,
                 text: "Ends after N messages",
             },
             ArgumentHelp {
                 name: "seconds",
-                form: Form::Value("N"),
+                form: Form::Value(Value::Number),
                 is_required: false,
                 text: "Ends after N seconds",
             },
             ArgumentHelp {
                 name: "write",
-                form: Form::Value("FILE"),
+                form: Form::Value(Value::Text("FILE")),
                 is_required: false,
                 text: "Writes a capture in place of lines",
             },
             ArgumentHelp {
                 name: "read",
-                form: Form::Value("FILE"),
+                form: Form::Value(Value::Text("FILE")),
                 is_required: false,
                 text: "Reads messages from a capture, not from a bus, so ADDRESS is left out",
             },
@@ -285,7 +318,7 @@ const PROGRAM_TEXT: &str = "A file that has a program as assembler text";
 
 const EDITION: ArgumentHelp = ArgumentHelp {
     name: "edition",
-    form: Form::Value("1|2"),
+    form: Form::Value(Value::Edition),
     is_required: false,
     text: "The edition of images that the program is for; 1 if it isn't given",
 };

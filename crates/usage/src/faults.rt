@@ -1,6 +1,6 @@
 // What is wrong with words that no command takes.
 
-use crate::commands::{COMMANDS, Form};
+use crate::commands::{COMMANDS, Form, Value};
 use crate::help::parse;
 use clap::error::ErrorKind;
 use std::alloc::{AllocError, Global};
@@ -53,8 +53,8 @@ fn push_pointer(line: &mut String, words: &[&str]) -> Result<(), AllocError> {
     line.push_str("--help")
 }
 
-// The name of its value, if a word is an option of some command that takes one.
-fn value_of(word: &str) -> Option<&'static str> {
+// What its value is, if a word is an option of some command that takes one.
+fn value_of(word: &str) -> Option<Value> {
     let name = word.strip_prefix("--")?;
     for command in &COMMANDS {
         for argument in command.arguments {
@@ -68,21 +68,12 @@ fn value_of(word: &str) -> Option<&'static str> {
     None
 }
 
-// What is wanted in the place of a word, if it can't be the value of this name.
-fn wanted_for(value: &str, word: &str) -> Option<&'static str> {
-    match value {
-        "N" if !word.parse::<u64>().is_ok_and(|number| number > 0) => Some("a number above 0"),
-        "1|2" if word != "1" && word != "2" => Some("1 or 2"),
-        _ => None,
-    }
-}
-
 // What is wrong with the first value that is none.
 fn value_fault(alloc: Global, words: &[&str]) -> Result<Option<String>, AllocError> {
-    let mut option = None;
+    let mut option: Option<(&str, Value)> = None;
     for word in words {
         if let Some((name, value)) = option {
-            if let Some(wanted) = wanted_for(value, word) {
+            if let Some(wanted) = value.wanted_for(word) {
                 let mut line = format!(in alloc; "{name} {word}: {wanted} is wanted")?;
                 push_pointer(&mut line, words)?;
                 return Ok(Some(line));

@@ -77,6 +77,6 @@ fn arg<'a>(alloc: Global, help: &ArgumentHelp) -> Arg<'a> {
         Form::Word => arg,
         Form::Words => arg.action(ArgAction::Append),
         Form::Flag => arg.long(help.name).action(ArgAction::SetTrue),
-        Form::Value(value) => arg.long(help.name).value_name(value),
+        Form::Value(value) => arg.long(help.name).value_name(value.name()),
     }
 }
