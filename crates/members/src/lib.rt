@@ -2,11 +2,12 @@
 //! server hands a `Mail` of each connection to the bus; the threads that put messages write them too.
 #![tactic(auto)]
 
-mod long_message;
+mod batch;
 mod mail;
 mod member;
 mod post;
 mod unsent;
+mod whole_message;
 mod writer;
 
 pub use mail::Mail;

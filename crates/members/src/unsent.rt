@@ -3,8 +3,8 @@
 ghost use Rattle.std.specs.Prelude.{◌≡◌, ◌≤◌, ◌++◌, ◌==◌, true, [], length, drop, unwrap_or};
 ghost use Rattle.members.specs.Waiting.{all_of, first_of};
 
-use crate::long_message::LongMessage;
-use bytes::BytesMut;
+use crate::batch::Batch;
+use crate::whole_message::WholeMessage;
 use outbox::Delivery;
 use std::alloc::Global;
 use std::marker::Model;
@@ -12,14 +12,15 @@ use std::marker::Model;
 /// How many bytes of short messages one write sends together.
 const BATCH: usize = 8192;
 
-/// The bytes of messages, one after the other, in memory that is there while they are. A message that is longer than what a
-/// batch has left isn't copied, nor is one for whose copy memory is refused.
+/// The bytes of messages, one after the other. Short ones are copied, so that one write sends them together. Written from where
+/// it lies is one that is alone, one that is longer than what a batch has left, and one for whose copy memory is refused.
 #[derive(Drop)]
 pub(crate) struct Unsent {
-    alloc: Global,
-    batch: BytesMut,
-    // The message after the batch, which is written from where it lies.
-    next: Option<LongMessage>,
+    // The message before the batch: a short one, to which nothing was added.
+    alone: Option<WholeMessage>,
+    batch: Batch,
+    // The message after the batch.
+    next: Option<WholeMessage>,
 }
 
 impl Model for Unsent {
@@ -28,7 +29,7 @@ impl Model for Unsent {
 
     ghost Value = { Waiting };
 
-    ghost view = { λ u. record { batch = u.batch.items; long = unwrap_or u.next []; is_open = is_none u.next } };
+    ghost view = { λ u. record { alone = unwrap_or u.alone []; batch = u.batch; next = unwrap_or u.next []; is_open = is_none u.next } };
 }
 
 impl Unsent {
@@ -36,8 +37,8 @@ impl Unsent {
         ensures { (all_of result ≡ []) × (result.is_open ≡ true) }
     {
         Unsent {
-            alloc,
-            batch: BytesMut::new(alloc),
+            alone: None,
+            batch: Batch::new(alloc),
             next: None,
         }
     }
@@ -60,10 +61,37 @@ impl Unsent {
     pub(crate) fn add(&mut self, message: Delivery)
         ensures { self.old.is_open ≡ true → all_of self.new ≡ all_of self.old ++ message.bytes }
     {
+        if self.is_empty() && message.bytes().len() <= BATCH {
+            self.alone = Some(WholeMessage::new(message));
+        } else {
+            self.batch_alone();
+            self.add_after(message);
+        }
+    }
+
+    /// Copies the message that was alone, if there is one and nothing after it.
+    fn batch_alone(&mut self)
+        ensures all { all_of self.new ≡ all_of self.old }
+        ensures open { self.new.is_open ≡ self.old.is_open }
+    {
+        if !self.batch.is_empty() {
+            return;
+        }
+        if let Some(alone) = self.alone.take() {
+            if !self.batch.add(alone.as_slice()) {
+                self.alone = Some(alone);
+            }
+        }
+    }
+
+    /// Adds a message to the batch, or after it.
+    fn add_after(&mut self, message: Delivery)
+        ensures { self.old.is_open ≡ true → all_of self.new ≡ all_of self.old ++ message.bytes }
+    {
         let bytes = message.bytes();
         let has_room = bytes.len() <= BATCH.saturating_sub(self.batch.len());
-        if !has_room || self.batch.extend_from_slice(bytes.as_slice()).is_err() {
-            self.next = Some(LongMessage::new(message));
+        if !has_room || !self.batch.add(bytes.as_slice()) {
+            self.next = Some(WholeMessage::new(message));
         }
     }
 
@@ -71,9 +99,13 @@ impl Unsent {
     pub(crate) fn as_slice(&self) -> &[u8]
         ensures { result.now ≡ first_of self.now }
     {
-        match &self.next {
-            Some(long) if self.batch.is_empty() => long.as_slice(),
-            _ => self.batch.as_slice(),
+        let alone = left_of(&self.alone);
+        if !alone.is_empty() {
+            alone
+        } else if !self.batch.is_empty() {
+            self.batch.as_slice()
+        } else {
+            left_of(&self.next)
         }
     }
 
@@ -81,22 +113,12 @@ impl Unsent {
     pub(crate) fn advance(&mut self, count: usize)
         ensures { count ≤ length (first_of self.old) → all_of self.new ≡ drop count (all_of self.old) }
     {
-        if !self.batch.is_empty() {
-            self.advance_batch(count);
-        } else if let Some(long) = self.next.take() {
-            self.next = long.advance(count);
-        }
-    }
-
-    /// Drops the first `count` bytes of the batch, which were written, and its memory once all of them are.
-    fn advance_batch(&mut self, count: usize)
-        ensures rest { count ≤ length self.old.batch → self.new.batch ≡ drop count self.old.batch }
-        ensures long { self.new.long ≡ self.old.long }
-    {
-        if count >= self.batch.len() {
-            self.batch = BytesMut::new(self.alloc);
-        } else {
+        if !left_of(&self.alone).is_empty() {
+            self.alone = rest_of(self.alone.take(), count);
+        } else if !self.batch.is_empty() {
             self.batch.advance(count);
+        } else {
+            self.next = rest_of(self.next.take(), count);
         }
     }
 
@@ -104,7 +126,25 @@ impl Unsent {
     pub(crate) fn clear(&mut self)
         ensures { all_of self.new ≡ [] }
     {
-        self.batch = BytesMut::new(self.alloc);
+        self.alone = None;
+        self.batch.clear();
         self.next = None;
     }
+}
+
+// The bytes that are left of a message, none where there is no message.
+fn left_of(message: &Option<WholeMessage>) -> &[u8]
+    ensures { result.now ≡ unwrap_or message.now [] }
+{
+    match message {
+        Some(message) => message.as_slice(),
+        None => &[],
+    }
+}
+
+// What is left of a message once `count` bytes more were written.
+fn rest_of(message: Option<WholeMessage>, count: usize) -> Option<WholeMessage>
+    ensures { unwrap_or result [] ≡ drop count (unwrap_or message []) }
+{
+    message?.advance(count)
 }

@@ -7,12 +7,12 @@ use std::marker::Model;
 
 /// A message of which the first bytes were written. Contracts see the bytes that are left.
 #[derive(Drop)]
-pub(crate) struct LongMessage {
+pub(crate) struct WholeMessage {
     message: Delivery,
     written: usize,
 }
 
-impl Model for LongMessage {
+impl Model for WholeMessage {
     ghost use Rattle.std.specs.Prelude.{◌≤◌, ℕ, List, drop, length};
 
     ghost Value = { List ℕ };
@@ -22,12 +22,12 @@ impl Model for LongMessage {
     ghost invariant = { λ l. l.written ≤ length l.message.bytes };
 }
 
-impl LongMessage {
+impl WholeMessage {
     /// A message of which nothing was written.
-    pub(crate) fn new(message: Delivery) -> LongMessage
+    pub(crate) fn new(message: Delivery) -> WholeMessage
         ensures { result ≡ message.bytes }
     {
-        LongMessage {
+        WholeMessage {
             message,
             written: 0,
         }
@@ -41,14 +41,14 @@ impl LongMessage {
     }
 
     /// What is left once `count` bytes more were written.
-    pub(crate) fn advance(self, count: usize) -> Option<LongMessage>
+    pub(crate) fn advance(self, count: usize) -> Option<WholeMessage>
         ensures { unwrap_or result [] ≡ drop count self }
     {
         if count >= self.message.bytes().len() - self.written {
             return None;
         }
-        let LongMessage { message, written } = self;
-        Some(LongMessage {
+        let WholeMessage { message, written } = self;
+        Some(WholeMessage {
             message,
             written: written + count,
         })
