@@ -5,6 +5,7 @@
 mod answer;
 mod assembling;
 mod beginning;
+mod capture_fault;
 mod capturing;
 mod checking;
 mod compiling;
@@ -24,4 +25,4 @@ mod wording;
 
 pub use command_line::{Fault, FileError, Files, Output, Writer};
 pub use entry::tool;
-pub use reasons::reason_for;
+pub use reasons::{capture_reason, reason_for};

@@ -1,11 +1,12 @@
 // What is said to people of words and texts that were refused.
 
 use crate::beginning::Beginning;
-use crate::sentences::{of_code, of_message, of_program, of_rule};
+use crate::capture_fault::capture_fault;
+use crate::sentences::{of_capture, of_code, of_message, of_program, of_rule};
 use bpf_code::CodeError;
 use bpf_text::assemble_bytes;
 use bpf_verify::{VerifyError, verify};
-use captures::is_capture;
+use captures::{CaptureError, is_capture};
 use command_line::{CommandRow, FileError, Files, HexError, decode, fault_of};
 use match_key::RuleError;
 use match_rule::Rule;
@@ -44,6 +45,11 @@ enum Reason<'a> {
         file: &'a str,
         fault: MsgError,
     },
+    /// A file is no capture, or a faulty one.
+    Capture {
+        file: &'a str,
+        fault: CaptureError,
+    },
     /// A file's text names no program.
     Code {
         file: &'a str,
@@ -70,6 +76,10 @@ impl<'a> fmt::Display for Reason<'a> {
             ),
             Reason::HalfByte(file) => write!(f, "{file}: the last byte has one digit alone"),
             Reason::Message { file, fault } => write!(f, "{file}: {}", of_message(*fault)),
+            Reason::Capture { file, fault } => {
+                write!(f, "{file}: ")?;
+                of_capture(f, *fault)
+            }
             Reason::Code { file, fault } => {
                 write_place(f, file, "line", fault.place())?;
                 f.write_str(of_code(*fault))
@@ -218,7 +228,7 @@ fn program_reason<'a, F: Files>(
     }
 }
 
-// What is wrong with a file that has a message as hexadecimal text. Of a capture nothing is said.
+// What is wrong with a file that has a message as hexadecimal text, or a capture.
 fn message_reason<'a, F: Files>(
     alloc: Global,
     file: &'a str,
@@ -228,29 +238,36 @@ fn message_reason<'a, F: Files>(
     if file == "-" {
         return Ok(None);
     }
-    match hex_text(alloc, file, each, files) {
-        Ok(Some(text)) => text_reason(alloc, file, &text),
-        Ok(None) => Ok(None),
+    let beginning = match begin(alloc, file, files) {
+        Ok(beginning) => beginning,
+        Err(error) => return unread_reason(file, error),
+    };
+    if each || is_capture(&beginning.bytes) {
+        return match capture_fault(alloc, files, beginning) {
+            Ok(Some(fault)) => Ok(Some(Reason::Capture { file, fault })),
+            Ok(None) => Ok(None),
+            Err(error) => unread_reason(file, error),
+        };
+    }
+    match beginning.read_rest(files) {
+        Ok(text) => text_reason(alloc, file, &text),
         Err(error) => unread_reason(file, error),
     }
 }
 
-// The text of a file, unless it is taken for a capture, of which only the beginning is read: it may be long.
-fn hex_text<F: Files>(
+// The first bytes of a file, which is open then.
+fn begin<F: Files>(alloc: Global, file: &str, files: &mut F) -> Result<Beginning, FileError> {
+    files.open(file)?;
+    Beginning::read(alloc, files)
+}
+
+/// What is wrong with a file that is no capture, or a faulty one, in a line for people.
+pub fn capture_reason(
     alloc: Global,
     file: &str,
-    each: bool,
-    files: &mut F,
-) -> Result<Option<Vec<u8>>, FileError> {
-    files.open(file)?;
-    if each {
-        return Ok(None);
-    }
-    let beginning = Beginning::read(alloc, files)?;
-    if is_capture(&beginning.bytes) {
-        return Ok(None);
-    }
-    Ok(Some(beginning.read_rest(files)?))
+    fault: CaptureError,
+) -> Result<String, AllocError> {
+    Reason::Capture { file, fault }.to_string(alloc)
 }
 
 fn text_reason<'a>(

@@ -2,6 +2,7 @@
 
 use bpf_code::CodeError;
 use bpf_verify::VerifyError;
+use captures::CaptureError;
 use match_key::RuleError;
 use message_value::MsgError;
 use std::fmt;
@@ -77,5 +78,38 @@ pub(crate) fn of_program(fault: VerifyError) -> &'static str {
         VerifyError::Unset(_) => "a way to it doesn't store the scratch word that it reads",
         VerifyError::Ancillary(_) => "it loads a word that isn't the message's",
         VerifyError::NoMemory => "there is no memory",
+    }
+}
+
+/// Of a capture.
+pub(crate) fn of_capture<W: fmt::Write>(
+    f: &mut fmt::Formatter<W>,
+    fault: CaptureError,
+) -> fmt::Result {
+    match fault {
+        CaptureError::Magic => f.write_str("it's neither pcap nor pcapng"),
+        CaptureError::Version => f.write_str(
+            "its version isn't 2.4 of pcap, or 1.0 or 1.2 of pcapng",
+        ),
+        CaptureError::LinkType(link_type) => write!(
+            f,
+            "its packets are of link type {link_type}, D-Bus messages of 231"
+        ),
+        CaptureError::ByteOrder => f.write_str("a section doesn't say its byte order"),
+        CaptureError::BlockLength => f.write_str("a block has a length that it can't have"),
+        CaptureError::RecordLength => f.write_str(
+            "a packet is longer than a message may be, or than its block",
+        ),
+        CaptureError::OptionLength => f.write_str("an option is longer than its block"),
+        CaptureError::Resolution => f.write_str(
+            "the resolution of an interface's times isn't one byte",
+        ),
+        CaptureError::Interface => f.write_str("a packet is of an interface that isn't described"),
+        CaptureError::Interfaces => f.write_str(
+            "a section describes more interfaces than are kept",
+        ),
+        CaptureError::Short => f.write_str(
+            "it ends in the middle of a header, a packet or a block",
+        ),
     }
 }

@@ -1,8 +1,9 @@
 // What is said to people of words and texts that were refused.
 
 use crate::two_files::{S1, TwoFiles};
+use captures::CaptureError;
 use command_line::spread;
-use dbusfan_tool::reason_for;
+use dbusfan_tool::{capture_reason, reason_for};
 use std::alloc::Global;
 use std::process::Abort;
 
@@ -71,15 +72,58 @@ fn texts(rt: HostRuntime) {
         "F: the last byte has one digit alone",
     );
     expect(&rt, alloc, line, S1.as_bytes(), "");
-    // A capture that is cut, and what is taken for one.
-    expect(
-        &rt,
-        alloc,
-        line,
-        b"\xd4\xc3\xb2\xa1\x02\0\x04\0\0\0\0\0",
-        "",
-    );
-    expect(&rt, alloc, "match|member='c'|F|--each", b"6c0", "");
+}
+
+/// The header of a pcap file of 2.4 whose packets are of the link type with this number, in its first bytes.
+fn header(link_type: u8) -> [u8; 24] {
+    [
+        0xd4, 0xc3, 0xb2, 0xa1, 2, 0, 4, 0, 0, 0, 0, 0, 0, 0, 0, 0, 0, 0, 4, 0, link_type, 0, 0, 0,
+    ]
+}
+
+#[test]
+fn captures(rt: HostRuntime) {
+    let alloc = rt.alloc();
+    let ends = "F: it ends in the middle of a header, a packet or a block";
+    let other = "F: its packets are of link type 1, D-Bus messages of 231";
+    for line in ["match|member='c'|F", "run|P|F", "match|member='c'|F|--each"] {
+        expect(&rt, alloc, line, &header(231), "");
+        expect(&rt, alloc, line, &header(1), other);
+        expect(
+            &rt,
+            alloc,
+            line,
+            b"\xd4\xc3\xb2\xa1\x02\0\x04\0\0\0\0\0",
+            ends,
+        );
+    }
+    let no_capture = "F: it's neither pcap nor pcapng";
+    expect(&rt, alloc, "run|P|F|--each", S1.as_bytes(), no_capture);
+    expect(&rt, alloc, "match|member='c'|-|--each", b"6c04", "");
+}
+
+/// That this is said of a capture with a fault.
+fn expect_of_capture<R: Abort>(rt: &R, alloc: Global, fault: CaptureError, said: &str) {
+    match capture_reason(alloc, "F", fault) {
+        Ok(reason) => assert_eq!(rt; reason.as_str(), said, "at {fault}"),
+        Err(_) => panic!(rt; "no memory"),
+    }
+}
+
+#[test]
+fn faults_of_captures(rt: HostRuntime) {
+    for (fault, said) in [
+        (
+            CaptureError::Version,
+            "F: its version isn't 2.4 of pcap, or 1.0 or 1.2 of pcapng",
+        ),
+        (
+            CaptureError::Interface,
+            "F: a packet is of an interface that isn't described",
+        ),
+    ] {
+        expect_of_capture(&rt, rt.alloc(), fault, said);
+    }
 }
 
 #[test]

@@ -3,8 +3,9 @@
 use crate::error::Fault;
 use crate::options::Options;
 use crate::words::Key;
+use captures::CaptureError;
 use command_line::{Files, Output, Writer};
-use dbusfan_tool::reason_for;
+use dbusfan_tool::{capture_reason, reason_for};
 use std::alloc::{AllocError, Global};
 
 /// Says more of a fault, in a line for people after the one for programs, as far as memory allows.
@@ -32,6 +33,7 @@ fn reason_of<F: Files>(
     match fault {
         Fault::Socket => of_address(alloc, &options, "no bus answers there, or it has gone away"),
         Fault::Auth => of_address(alloc, &options, "this bus doesn't let this user in"),
+        Fault::Capture(fault) => of_capture(alloc, &options, *fault),
         Fault::Tool(command_line::Fault::File) => of_files(alloc, &options, files),
         Fault::Tool(command_line::Fault::Rule(_)) => of_rules(alloc, &options, files),
         Fault::Tool(command_line::Fault::Code(_) | command_line::Fault::Program(_)) => {
@@ -48,6 +50,18 @@ fn of_address(
 ) -> Result<Option<String>, AllocError> {
     match options.address() {
         Some(address) => Ok(Some(format!(in alloc; "{address}: {reason}")?)),
+        None => Ok(None),
+    }
+}
+
+fn of_capture(
+    alloc: Global,
+    options: &Options<'_>,
+    fault: CaptureError,
+) -> Result<Option<String>, AllocError> {
+    match options.text_of(Key::Read) {
+        Some("-") => Ok(Some(capture_reason(alloc, "standard input", fault)?)),
+        Some(file) => Ok(Some(capture_reason(alloc, file, fault)?)),
         None => Ok(None),
     }
 }
