@@ -1,11 +1,15 @@
 // Bytes of short messages that one write sends together.
 
-ghost use Rattle.std.specs.Prelude.{◌≡◌, ◌≤◌, ◌++◌, ◌==◌, [], length, drop, if◌then◌else◌};
+ghost use Rattle.std.specs.Prelude.{◌≡◌, ◌++◌, ◌==◌, [], length, drop, if◌then◌else◌};
 
 use std::alloc::Global;
 use std::marker::Model;
 
-/// Bytes in memory that is there while some of them are to be written. Contracts see those.
+/// How many bytes of short messages one write sends together.
+pub(crate) const BATCH: usize = 8192;
+
+/// Bytes in memory that is there while some of them are to be written. Contracts see those. The ones before them, which were
+/// written, stay until all are.
 #[derive(Drop)]
 pub(crate) struct Batch {
     alloc: Global,
@@ -47,6 +51,11 @@ impl Batch {
         ensures { result ≡ (length self.now == 0) }
     {
         self.len() == 0
+    }
+
+    /// How many bytes may be added, so that it never has more than a batch in memory.
+    pub(crate) fn room(&self) -> usize {
+        BATCH.saturating_sub(self.bytes.len())
     }
 
     /// The bytes to be written.

@@ -3,14 +3,11 @@
 ghost use Rattle.std.specs.Prelude.{◌≡◌, ◌≤◌, ◌++◌, ◌==◌, true, [], length, drop, unwrap_or};
 ghost use Rattle.members.specs.Waiting.{all_of, first_of};
 
-use crate::batch::Batch;
+use crate::batch::{BATCH, Batch};
 use crate::whole_message::WholeMessage;
 use outbox::Delivery;
 use std::alloc::Global;
 use std::marker::Model;
-
-/// How many bytes of short messages one write sends together.
-const BATCH: usize = 8192;
 
 /// The bytes of messages, one after the other. Short ones are copied, so that one write sends them together. Written from where
 /// it lies is one that is alone, one that is longer than what a batch has left, and one for whose copy memory is refused.
@@ -89,7 +86,7 @@ impl Unsent {
         ensures { self.old.is_open ≡ true → all_of self.new ≡ all_of self.old ++ message.bytes }
     {
         let bytes = message.bytes();
-        let has_room = bytes.len() <= BATCH.saturating_sub(self.batch.len());
+        let has_room = bytes.len() <= self.batch.room();
         if !has_room || !self.batch.add(bytes.as_slice()) {
             self.next = Some(WholeMessage::new(message));
         }
