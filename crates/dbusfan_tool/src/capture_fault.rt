@@ -18,11 +18,15 @@ pub(crate) fn capture_fault<F: Files>(
         mut is_open,
     } = beginning;
     for _ in 0..u64::MAX {
-        let left = match after_packets(&mut packets, &bytes) {
-            Ok(rest) => Vec::from_slice(alloc, rest),
+        let rest = match after_packets(&mut packets, &bytes) {
+            Ok(rest) => rest,
             Err(fault) => return Ok(Some(fault)),
         };
-        bytes = left.map_err(|_| FileError::Memory)?;
+        // A block of many pieces isn't copied for each of them.
+        if rest.len() < bytes.len() {
+            let left = Vec::from_slice(alloc, rest);
+            bytes = left.map_err(|_| FileError::Memory)?;
+        }
         if !is_open {
             return Ok(packets.end(&bytes).err());
         }
