@@ -54,26 +54,40 @@ impl Hold {
 /// no put is left.
 pub struct Shares {
     message: Item,
-    items: Vec<Item>,
+    // That of the last put, so that one put takes no further memory.
+    last: Option<Item>,
+    others: Vec<Item>,
 }
 
 impl Model for Shares {
-    ghost use Rattle.std.specs.Prelude.{◌≡◌, length, replicate};
+    ghost use Rattle.std.specs.Prelude.{◌≡◌, ◌+◌, true, [], IfSome, is_none, is_some, length, replicate, if◌then◌else◌};
     ghost use Rattle.outbox.specs.Items.{Shares};
 
     ghost Value = { Shares };
 
-    ghost view = { λ s. record { message = s.message; left = length s.items.items } };
+    ghost view = { λ s. record { message = s.message; left = length s.others.items + (if is_some s.last then 1 else 0) } };
 
-    ghost invariant = { λ s. s.items.items ≡ replicate (length s.items.items) s.message };
+    ghost invariant = { λ s. (s.others.items ≡ replicate (length s.others.items) s.message) × IfSome s.last (λ item. item ≡ s.message) × (is_none s.last ≡ true → s.others.items ≡ []) };
 }
 
 impl Shares {
     fn new(alloc: Global, message: Item, puts: usize) -> Result<Shares, AllocError>
         ensures { IfOk result (λ shares. shares ≡ record { message = message; left = puts }) }
     {
-        let items = shares_of(alloc, &message, puts)?;
-        Ok(Shares { message, items })
+        if puts == 0 {
+            return Ok(Shares {
+                message,
+                last: None,
+                others: Vec::new(alloc),
+            });
+        }
+        let last = Some(message.share()?);
+        let others = shares_of(alloc, &message, puts - 1)?;
+        Ok(Shares {
+            message,
+            last,
+            others,
+        })
     }
 
     /// The share for the next put.
@@ -82,7 +96,10 @@ impl Shares {
         ensures item { result ≡ self.old.message }
         ensures left { (self.new.left + 1 ≡ self.old.left) × (self.new.message ≡ self.old.message) }
     {
-        self.items.pop().unwrap()
+        match self.others.pop() {
+            Some(item) => item,
+            None => self.last.take().unwrap(),
+        }
     }
 }
 
@@ -180,7 +197,8 @@ impl Releases {
     {
         let Shares {
             message: _,
-            items: _,
+            last: _,
+            others: _,
         } = shares;
         self.is_putting = false;
     }
