@@ -1,4 +1,4 @@
--- The numbers and the names of the faults (own).
+-- The numbers and the names of the faults, and what is said of them (own).
 use Rattle.std.specs.Prelude.{ℕ, List, Option, Some, None, codes}
 use Rattle.bpf_code.specs.Numbers.{text_at}
 use Rattle.bpf_verify.specs.declared.error.VerifyError.{VerifyError}
@@ -30,6 +30,20 @@ verify_error_name (Last place) = codes "Last"
 verify_error_name (Unset place) = codes "Unset"
 verify_error_name (Ancillary place) = codes "Ancillary"
 verify_error_name NoMemory = codes "NoMemory"
+
+-- what is wrong, for people
+abbrev pub verify_error_sentence : VerifyError → List ℕ
+verify_error_sentence Empty = codes "there is no instruction"
+verify_error_sentence TooMany = codes "there are more than 4,096 instructions"
+verify_error_sentence (Code place) = codes "there is no such instruction"
+verify_error_sentence (ZeroDivisor place) = codes "it divides by 0"
+verify_error_sentence (Shift place) = codes "it shifts by 32 or more"
+verify_error_sentence (Scratch place) = codes "scratch words are 0 to 15"
+verify_error_sentence (Jump place) = codes "it jumps out of the program"
+verify_error_sentence (Last place) = codes "the last instruction has to be a return"
+verify_error_sentence (Unset place) = codes "a way to it does not store the scratch word that it reads"
+verify_error_sentence (Ancillary place) = codes "it loads a word that no message has"
+verify_error_sentence NoMemory = codes "there is no memory"
 
 -- the place of the instruction that is at fault
 abbrev pub verify_error_place : VerifyError → Option ℕ

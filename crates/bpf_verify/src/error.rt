@@ -1,5 +1,5 @@
 ghost use Rattle.std.specs.Prelude.{◌≡◌, Some};
-ghost use Rattle.bpf_verify.specs.Numbers.{verify_error_number, verify_error_name, verify_error_place, verify_error_text};
+ghost use Rattle.bpf_verify.specs.Numbers.{verify_error_number, verify_error_name, verify_error_sentence, verify_error_place, verify_error_text};
 
 use std::fmt;
 
@@ -66,6 +66,25 @@ impl VerifyError {
             VerifyError::Unset(_) => "Unset",
             VerifyError::Ancillary(_) => "Ancillary",
             VerifyError::NoMemory => "NoMemory",
+        }
+    }
+
+    /// What is wrong, for people.
+    pub fn sentence(self) -> &'static str
+        ensures { result.now ≡ verify_error_sentence self }
+    {
+        match self {
+            VerifyError::Empty => "there is no instruction",
+            VerifyError::TooMany => "there are more than 4,096 instructions",
+            VerifyError::Code(_) => "there is no such instruction",
+            VerifyError::ZeroDivisor(_) => "it divides by 0",
+            VerifyError::Shift(_) => "it shifts by 32 or more",
+            VerifyError::Scratch(_) => "scratch words are 0 to 15",
+            VerifyError::Jump(_) => "it jumps out of the program",
+            VerifyError::Last(_) => "the last instruction has to be a return",
+            VerifyError::Unset(_) => "a way to it does not store the scratch word that it reads",
+            VerifyError::Ancillary(_) => "it loads a word that no message has",
+            VerifyError::NoMemory => "there is no memory",
         }
     }
 

@@ -1,9 +1,9 @@
 -- The names of the errors that the bus answers, and what they say (D-Bus Specification, "Message Bus Messages"; the sentences
 -- are own).
-use Rattle.std.specs.Prelude.{ℕ, List, codes, ◌++◌, Option, None}
-use Rattle.match_key.specs.Errors.{name_of}
-use Rattle.bpf_code.specs.Numbers.{text_at}
-use Rattle.bpf_verify.specs.Numbers.{verify_error_name, verify_error_place}
+use Rattle.std.specs.Prelude.{ℕ, List, codes, ◌++◌, Option, Some, None}
+use Rattle.match_key.specs.Errors as rules
+use Rattle.std.specs.Fmt.{decimal}
+use Rattle.bpf_verify.specs.Numbers.{verify_error_sentence, verify_error_place}
 use Rattle.bus_messages.specs.declared.error_name.ErrorName.{ErrorName}
 use Rattle.bus_messages.specs.declared.error_name.ErrorName.TheVariants.{AccessDenied, AdtAuditDataUnknown, Failed, InvalidArgs, LimitsExceeded, MatchRuleInvalid, MatchRuleNotFound, NameHasNoOwner, NoMemory, NoReply, ServiceUnknown, PropertyReadOnly, SelinuxSecurityContextUnknown, UnixProcessIdUnknown, UnknownInterface, UnknownMethod, UnknownProperty, BadProgram, BadEdition, NoAttachment}
 use Rattle.bus_messages.specs.declared.exceeded.Exceeded.{Exceeded}
@@ -72,7 +72,7 @@ sentence_of AdtAuditDataUnknown = codes "the bus knows no audit sessions"
 sentence_of Failed = codes "Hello came before, or the bus has no answer"
 sentence_of InvalidArgs = codes "these are not arguments of the method"
 sentence_of (LimitsExceeded limit) = limit_of limit
-sentence_of (MatchRuleInvalid fault) = name_of fault
+sentence_of (MatchRuleInvalid fault) = rules.sentence_of fault
 sentence_of MatchRuleNotFound = codes "this connection has no such rule"
 sentence_of NameHasNoOwner = codes "nobody owns the name"
 sentence_of NoMemory = codes "the bus has no memory for this"
@@ -84,7 +84,7 @@ sentence_of UnknownInterface = codes "the bus has no such interface"
 sentence_of UnknownMethod = codes "the bus has no such method"
 sentence_of UnknownProperty = codes "the interface has no such property"
 sentence_of PropertyReadOnly = codes "no property of the bus can be set"
-sentence_of (BadProgram fault) = verify_error_name fault
+sentence_of (BadProgram fault) = verify_error_sentence fault
 sentence_of BadEdition = codes "there is no such edition of a summary"
 sentence_of NoAttachment = codes "this connection has no such program"
 
@@ -93,6 +93,11 @@ abbrev pub place_of : ErrorName → Option ℕ
 place_of (BadProgram fault) = verify_error_place fault
 place_of _ = None
 
+-- where it is, if anywhere
+abbrev pub place_text : Option ℕ → List ℕ
+place_text None = codes ""
+place_text (Some place) = codes " at instruction " ++ decimal place
+
 -- what an error says: its word, what was wrong, and where
 abbrev pub text_of : ErrorName → List ℕ
-text_of name = text_at (word_of name ++ codes ": " ++ sentence_of name) (place_of name)
+text_of name = word_of name ++ codes ": " ++ sentence_of name ++ place_text (place_of name)

@@ -111,7 +111,7 @@ impl ErrorName {
             },
             ErrorName::MatchRuleInvalid(fault) => Terms {
                 word: "MatchRuleInvalid",
-                sentence: fault.name(),
+                sentence: fault.sentence(),
             },
             ErrorName::MatchRuleNotFound => Terms {
                 word: "MatchRuleNotFound",
@@ -159,7 +159,7 @@ impl ErrorName {
             },
             ErrorName::BadProgram(fault) => Terms {
                 word: "BadProgram",
-                sentence: fault.name(),
+                sentence: fault.sentence(),
             },
             ErrorName::BadEdition => Terms {
                 word: "BadEdition",
@@ -183,7 +183,7 @@ impl ErrorName {
     }
 }
 
-/// Its word and its sentence, as the body of the error has them, and ` at ` with the place of an instruction.
+/// Its word and its sentence, as the body of the error has them, and ` at instruction ` with the place of one, from 0.
 impl fmt::Display for ErrorName {
     ghost use Rattle.std.specs.Prelude.{Some};
 
@@ -192,7 +192,7 @@ impl fmt::Display for ErrorName {
     fn fmt<W: fmt::Write>(&self, f: &mut fmt::Formatter<W>) -> fmt::Result {
         let Terms { word, sentence } = self.terms();
         match self.place() {
-            Some(place) => write!(f, "{word}: {sentence} at {place}"),
+            Some(place) => write!(f, "{word}: {sentence} at instruction {place}"),
             None => write!(f, "{word}: {sentence}"),
         }
     }

@@ -2,7 +2,7 @@
 
 use crate::beginning::Beginning;
 use crate::capture_fault::capture_fault;
-use crate::sentences::{of_capture, of_code, of_message, of_program, of_rule};
+use crate::sentences::{of_capture, of_code, of_message, of_rule};
 use bpf_code::CodeError;
 use bpf_text::assemble_bytes;
 use bpf_verify::{VerifyError, verify};
@@ -86,7 +86,7 @@ impl<'a> fmt::Display for Reason<'a> {
             }
             Reason::Program { file, fault } => {
                 write_place(f, file, "instruction", fault.place())?;
-                f.write_str(of_program(*fault))
+                f.write_str(fault.sentence())
             }
             Reason::Unreadable(file) => write!(f, "{file}: it isn't there, or can't be read"),
         }

@@ -1,7 +1,6 @@
 // What is said to people of a fault.
 
 use bpf_code::CodeError;
-use bpf_verify::VerifyError;
 use captures::CaptureError;
 use match_key::RuleError;
 use message_value::MsgError;
@@ -14,14 +13,14 @@ pub(crate) fn of_rule<W: fmt::Write>(
     fault: RuleError,
 ) -> fmt::Result {
     match fault {
-        RuleError::TooLong => f.write_str("a rule has at most 1,024 bytes"),
         RuleError::UnknownKey => write!(f, "there is no key {key}"),
         RuleError::KeyTwice => write!(f, "{key} is given twice"),
         RuleError::BadValue => write!(f, "this is no value of {key}"),
         RuleError::Unquoted => write!(f, "the value of {key} isn't closed"),
-        RuleError::PathTwice => f.write_str("path and path_namespace exclude one another"),
         RuleError::ArgNumber => write!(f, "{key} isn't one of arg0 to arg63"),
-        RuleError::NoMemory => f.write_str("there is no memory"),
+        RuleError::TooLong | RuleError::PathTwice | RuleError::NoMemory => {
+            f.write_str(fault.sentence())
+        }
     }
 }
 
@@ -61,23 +60,6 @@ pub(crate) fn of_code(fault: CodeError) -> &'static str {
         CodeError::Label(_) => "a label names no instruction that it may name",
         CodeError::FarJump(_) => "the jump is too far",
         CodeError::NoMemory => "there is no memory",
-    }
-}
-
-/// Of a program.
-pub(crate) fn of_program(fault: VerifyError) -> &'static str {
-    match fault {
-        VerifyError::Empty => "there is no instruction",
-        VerifyError::TooMany => "there are more than 4,096 instructions",
-        VerifyError::Code(_) => "there is no such instruction",
-        VerifyError::ZeroDivisor(_) => "it divides by 0",
-        VerifyError::Shift(_) => "it shifts by 32 or more",
-        VerifyError::Scratch(_) => "scratch words are 0 to 15",
-        VerifyError::Jump(_) => "it jumps out of the program",
-        VerifyError::Last(_) => "the last instruction has to be a return",
-        VerifyError::Unset(_) => "a way to it doesn't store the scratch word that it reads",
-        VerifyError::Ancillary(_) => "it loads a word that isn't the message's",
-        VerifyError::NoMemory => "there is no memory",
     }
 }
 

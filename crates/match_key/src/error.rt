@@ -1,7 +1,7 @@
 // Why a text is no rule.
 
 ghost use Rattle.std.specs.Prelude.{◌≡◌};
-ghost use Rattle.match_key.specs.Errors.{number_of, name_of};
+ghost use Rattle.match_key.specs.Errors.{number_of, name_of, sentence_of};
 
 use std::alloc::{AllocError, AllocFailed};
 use std::error::Error;
@@ -50,6 +50,22 @@ impl RuleError {
             RuleError::PathTwice => "PathTwice",
             RuleError::ArgNumber => "ArgNumber",
             RuleError::NoMemory => "NoMemory",
+        }
+    }
+
+    /// What is wrong, for people.
+    pub fn sentence(self) -> &'static str
+        ensures { result.now ≡ sentence_of self }
+    {
+        match self {
+            RuleError::TooLong => "a rule has at most 1,024 bytes",
+            RuleError::UnknownKey => "there is no such key",
+            RuleError::KeyTwice => "a key is given twice",
+            RuleError::BadValue => "a key may not have this value",
+            RuleError::Unquoted => "a value is not closed",
+            RuleError::PathTwice => "path and path_namespace exclude one another",
+            RuleError::ArgNumber => "an argument has a number that its key may not have",
+            RuleError::NoMemory => "there is no memory",
         }
     }
 }

@@ -228,10 +228,14 @@ impl<B: Naming, M: Mailbox> Peer<B, M> {
         owner: Result<Option<Owner>, Refused>,
     ) -> Result<(u64, Stats), Refused> {
         self.check_insight()?;
-        let number = match owner? {
-            Some(Owner::Connection(number)) => number,
-            Some(Owner::Bus) => return Err(Refused::Error(ErrorName::InvalidArgs)),
-            None => return Err(Refused::Error(ErrorName::NameHasNoOwner)),
+        let number = match owner {
+            Ok(Some(Owner::Connection(number))) => number,
+            Ok(Some(Owner::Bus)) => return Err(Refused::Error(ErrorName::InvalidArgs)),
+            // Nobody owns what is no name.
+            Ok(None) | Err(Refused::Error(ErrorName::InvalidArgs)) => {
+                return Err(Refused::Error(ErrorName::NameHasNoOwner));
+            }
+            Err(why) => return Err(why),
         };
         match stats_of(context.rt, context.alloc, context.bus, number)? {
             Some(stats) => Ok((number, stats)),

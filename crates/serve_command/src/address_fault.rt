@@ -1,5 +1,6 @@
 // What is wrong with an address that can't be read, and where.
 
+use crate::guid::before_guid;
 use std::fmt;
 
 /// What is wrong with an address, and after how many of its bytes.
@@ -13,7 +14,7 @@ pub(crate) struct AddressFault<'a> {
 impl<'a> AddressFault<'a> {
     /// The first thing that is wrong with a text that is no address.
     pub(crate) fn of(text: &'a str) -> AddressFault<'a> {
-        let (offset, reason) = match text.split_once(':') {
+        let (offset, reason) = match before_guid(text).split_once(':') {
             None => (0, "unix: or tcp: is wanted first"),
             Some(("unix", pairs)) => first_fault(5, pairs, &UNIX),
             Some(("tcp", pairs)) => first_fault(4, pairs, &TCP),
@@ -71,6 +72,9 @@ fn pair_fault(pair: &str, keys: &Keys) -> Option<(usize, &'static str)> {
     let Some((key, value)) = pair.split_once('=') else {
         return Some((0, "a key, = and a value are wanted"));
     };
+    if key == "guid" {
+        return Some((0, "an id comes last, with 32 hexadecimal digits"));
+    }
     if !keys.names.iter().any(|name| *name == key) {
         return Some((0, "this transport has no such key"));
     }

@@ -38,6 +38,21 @@ impl Guid {
     }
 }
 
+/// An address without the id that it may end with, as clients are told it.
+pub(crate) fn before_guid(address: &str) -> &str {
+    match address.rsplit_once(',') {
+        Some((before, pair)) if is_guid_pair(pair) => before,
+        _ => address,
+    }
+}
+
+fn is_guid_pair(pair: &str) -> bool {
+    match pair.strip_prefix("guid=") {
+        Some(guid) => Guid::read(guid).is_some(),
+        None => false,
+    }
+}
+
 impl fmt::Display for Guid {
     fn fmt<W: fmt::Write>(&self, f: &mut fmt::Formatter<W>) -> fmt::Result {
         for digit in self.digits {

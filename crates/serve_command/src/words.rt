@@ -2,7 +2,7 @@
 
 use crate::address_fault::AddressFault;
 use crate::addresses::{Addresses, MOST};
-use crate::guid::Guid;
+use crate::guid::{Guid, before_guid};
 use crate::limit_fault::LimitFault;
 use crate::options::Announcement;
 use endpoints::Address;
@@ -307,8 +307,9 @@ impl<'a> Words<'a> {
     }
 }
 
+/// The address that a text spells. The id that it may end with is left out: a bus has its own.
 fn read_address(text: &str) -> Result<Address<'_>, WordFault<'_>> {
-    match Address::read(text) {
+    match Address::read(before_guid(text)) {
         Some(address) => Ok(address),
         None => Err(WordFault::Address(AddressFault::of(text))),
     }

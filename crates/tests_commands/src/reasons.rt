@@ -164,7 +164,7 @@ fn programs(rt: HostRuntime) {
         ("div #0\nret #1", "P, instruction 0: it divides by 0"),
         (
             "ld #1\nld M[0]\nret a",
-            "P, instruction 1: a way to it doesn't store the scratch word that it reads",
+            "P, instruction 1: a way to it does not store the scratch word that it reads",
         ),
     ] {
         expect_of(&rt, alloc, "check|P", program.as_bytes(), b"", said);
