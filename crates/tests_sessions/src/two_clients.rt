@@ -121,6 +121,19 @@ fn two_clients_over_unix(rt: HostRuntime) {
 }
 
 #[test]
+fn an_address_with_the_id_of_another_bus(rt: HostRuntime) {
+    let path = "told.sock";
+    let line = "listening unix:path=told.sock,guid=0123456789abcdef0123456789abcdef\n";
+    serve_two(
+        &rt,
+        rt.alloc(),
+        "unix:path=told.sock,guid=fedcba9876543210fedcba9876543210",
+        Some(path),
+        Some(line),
+    );
+}
+
+#[test]
 fn a_bus_of_no_address(rt: HostRuntime) {
     let announced = Announced::new(rt.alloc());
     let mut out = Output::new(Announcer {

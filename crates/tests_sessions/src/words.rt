@@ -43,7 +43,7 @@ where
 
 #[test]
 fn words_that_are_no_row(rt: HostRuntime) {
-    let rows: [(&[&str], &str); 25] = [
+    let rows: [(&[&str], &str); 29] = [
         (&["--verbose"], "  unknown option --verbose"),
         (&["--verbose=1"], "  unknown option --verbose"),
         (&["bus"], "  bus is no option"),
@@ -107,6 +107,32 @@ fn words_that_are_no_row(rt: HostRuntime) {
         (
             &["--listen", "unix:pth=/bus"],
             "  --listen unix:pth=/bus, at 5: this transport has no such key",
+        ),
+        (
+            &[
+                "--listen",
+                "unix:guid=0123456789abcdef0123456789abcdef,path=/bus",
+            ],
+            "  --listen unix:guid=0123456789abcdef0123456789abcdef,path=/bus, at 5: an id comes last, with 32 hexadecimal digits",
+        ),
+        (
+            &["--listen", "unix:path=/bus,guid=0123"],
+            "  --listen unix:path=/bus,guid=0123, at 15: an id comes last, with 32 hexadecimal digits",
+        ),
+        (
+            &[
+                "--listen",
+                "tcp:host=a,guid=0123456789abcdef0123456789abcdef",
+            ],
+            "  --listen tcp:host=a,guid=0123456789abcdef0123456789abcdef, at 4: host and port are wanted, once each, the port as a number up to 65535",
+        ),
+        (
+            &[
+                "--listen=unix:path=/a",
+                "--listen",
+                "unix:path=/a,guid=0123456789abcdef0123456789abcdef",
+            ],
+            "  --listen unix:path=/a,guid=0123456789abcdef0123456789abcdef is given twice",
         ),
         (
             &["--listen", "unix:path=a%2"],
