@@ -236,16 +236,19 @@ impl<B: Naming, M: Mailbox> Peer<B, M> {
             .broadcast(context.rt, context.alloc, source, view, bytes, lists);
         match routed {
             Ok(()) => {
-                self.count_broadcast(source, lists);
+                self.note_broadcast(source, lists);
                 Ok(())
             }
             Err(_) => Err(AnswerError::NoMemory),
         }
     }
 
-    // Counts a broadcast, unless it is the bus's.
-    fn count_broadcast(&self, source: Source, lists: &RouteLists) {
+    // Counts a broadcast, and notes whether it was for anybody, unless it is the bus's.
+    fn note_broadcast(&mut self, source: Source, lists: &RouteLists)
+        ensures { self.new ≡ self.old }
+    {
         if source == Source::Own {
+            self.was_heard = !lists.recipients.is_empty();
             let cost = lists.cost();
             self.own.tally().add(Counts {
                 broadcasts: 1,

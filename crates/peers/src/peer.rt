@@ -32,6 +32,8 @@ where
     pub(crate) serials: Serials,
     pub(crate) own: OwnOutbox<M>,
     pub(crate) holdings: Holdings,
+    // Whether its last broadcast was for anybody: then the next may well be, too.
+    pub(crate) was_heard: bool,
 }
 
 impl<B: Naming, M: Mailbox> Model for Peer<B, M>
@@ -62,6 +64,7 @@ impl<B: Naming, M: Mailbox> Peer<B, M> {
             serials: Serials::new(),
             own,
             holdings: Holdings::new(alloc),
+            was_heard: false,
         }
     }
 
@@ -119,6 +122,7 @@ impl<B: Naming, M: Mailbox> Peer<B, M> {
             serials: _,
             own: _,
             holdings: _,
+            was_heard: _,
         } = self;
         pass
     }

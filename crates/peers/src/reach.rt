@@ -13,7 +13,7 @@ use std::sync::Wait;
 impl<B: Naming, M: Mailbox> Peer<B, M> {
     /// Whether this message, stamped with the client's name, is for nobody, after a history that begins with what the pass had
     /// seen, and is seen then. Most broadcasts are, and needn't be stamped. If the bus doesn't tell, or somebody watches it, the
-    /// answer is false.
+    /// answer is false; also where the client's last broadcast was for somebody, since a look is then most often in vain.
     pub(crate) fn reaches_nobody<W: Wait, R: Wait + Drop>(
         &mut self,
         context: &Context<'_, B, M, W, R>,
@@ -23,7 +23,7 @@ impl<B: Naming, M: Mailbox> Peer<B, M> {
         ensures later { HasSeenMore self.old.pass self.new.pass }
         ensures same { self.new ≡ with_pass self.old self.new.pass }
     {
-        if !context.bus.monitors().is_empty() {
+        if self.was_heard || !context.bus.monitors().is_empty() {
             return false;
         }
         let reaches_nobody = self.is_for_nobody(view);
