@@ -13,6 +13,9 @@ use crate::strings::push_strings;
 use message_value::Order;
 use std::alloc::AllocError;
 
+/// How many bytes of room a body begins with whose first value is a text: most have a few short ones.
+const TEXT_ROOM: usize = 96;
+
 /// Appends `more` to `list` after `grown` has grown. Where either is refused, `grown` is cut back to `len`.
 pub(crate) fn complete(
     pushed: Result<(), AllocError>,
@@ -33,6 +36,15 @@ pub(crate) fn complete(
     completed
 }
 
+/// Makes room in a body that is to begin with a text, so that most take memory once. Without that room they grow step by step.
+fn reserve_for_texts(body: &mut Vec<u8>)
+    ensures { body.new.items ≡ body.old.items }
+{
+    if body.is_empty() {
+        let _ = body.reserve(TEXT_ROOM);
+    }
+}
+
 impl<'a> Builder<'a> {
     ghost use Rattle.std.specs.Prelude.{◌≡◌, if◌then◌else◌};
     ghost use Rattle.signature.specs.DataType.{basic, array};
@@ -51,6 +63,7 @@ impl<'a> Builder<'a> {
             self.body_state = BodyState::Spoiled;
             return Ok(());
         }
+        reserve_for_texts(&mut self.body);
         let len = self.body.len();
         let pushed = push_string(&mut self.body, Order::Little, string.as_bytes());
         complete(pushed, &mut self.body, len, &mut self.signature, b"s")?;
