@@ -61,6 +61,13 @@ pub(crate) struct Connection<J: Naming> {
     pub(crate) ticket: u64,
 }
 
+/// Closes a socket. Where another thread still has it, it is shut, so that the client sees its end at once all the same.
+pub(crate) fn close(link: Arc<Link>) {
+    if let Err(link) = Arc::try_unwrap(link) {
+        link.shut();
+    }
+}
+
 impl<J: Naming> Connection<J> {
     /// A connection that has just been accepted. The post tells of it by the token, and it is one of the newcomers.
     ///
@@ -320,14 +327,14 @@ impl<J: Naming> Connection<J> {
         self.beginning.map_or(0, |beginning| beginning.len())
     }
 
-    /// Ends it: what its socket still takes is written, and the socket is closed.
+    /// Ends it: what its socket still takes is written. The socket is given back, to be closed.
     pub(crate) fn end<W: Wait, R: Wait + Drop>(
         self,
         rt: &W,
         alloc: Global,
         hub: &Hub<J, R>,
         lists: &mut RouteLists,
-    ) {
+    ) -> Arc<Link> {
         hub.unfinished.give_back(self.beginning_len());
         let Connection {
             session,
@@ -343,6 +350,6 @@ impl<J: Naming> Connection<J> {
             hub.keep_rest(rt, rest);
         }
         member.end(rt);
-        link.shut();
+        link
     }
 }

@@ -2,7 +2,7 @@
 
 use crate::accepting::first_served;
 use crate::acceptor::Acceptor;
-use crate::connection::{Connection, Turn};
+use crate::connection::{Connection, Turn, close};
 use crate::endpoint::Endpoint;
 use crate::hub::Hub;
 use crate::input::{INPUT, watch_input};
@@ -381,10 +381,11 @@ impl<'a, J: Naming, R: Wait + Drop> Worker<'a, J, R> {
         let number = connection.number();
         self.find_reader(rt);
         connection.lend(self.reader.take());
-        connection.end(rt, self.alloc, self.hub, &mut self.scratch.aids.lists);
+        let link = connection.end(rt, self.alloc, self.hub, &mut self.scratch.aids.lists);
         if let Some(number) = number {
             self.hub.clients.leave(rt, number);
         }
+        close(link);
         if let Some(note) = Note::of_end(number, cause) {
             self.hub.notes.leave(rt, note);
         }
