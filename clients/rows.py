@@ -309,7 +309,7 @@ def a_monitor_sends_nothing(bus):
     return seen + [not any(got.member == "Sent" for got in two.waiting)]
 
 
-@row("wire", [[2, 2, 3], [":1.1", 2, 2, 0], "NameHasNoOwner", "InvalidArgs", "UnknownInterface"])
+@row("wire", [[2, 2, 3], [":1.1", 2, 2, 0], "NameHasNoOwner", "NameHasNoOwner", "InvalidArgs", "UnknownInterface"])
 def counts_of_the_bus(bus):
     one, two = bus.connect(), bus.connect()
     for rule in ("member='c'", "path='/a'"):
@@ -321,7 +321,7 @@ def counts_of_the_bus(bus):
     facts = {name: fact[1] for name, fact in ask("GetConnectionStats", "s", ("com.example.Counted",))[0].items()}
     facts["UniqueName"] = ":1.1" if facts["UniqueName"] == two.name else facts["UniqueName"]
     seen.append([facts[name] for name in ("UniqueName", "MatchRules", "BusNames", "OutgoingBytes")])
-    return seen + [ask("GetConnectionStats", "s", (name,)) for name in ("com.example.Nobody", BUS)] + [ask("GetStats", path="/a")]
+    return seen + [ask("GetConnectionStats", "s", (name,)) for name in ("com.example.Nobody", "no..name", BUS)] + [ask("GetStats", path="/a")]
 
 
 @row("wire", [[3, 2, 0, 2, 2, 2], [3, 2, 0, 2, 2, 2]], ours_alone=True)
