@@ -9,7 +9,7 @@ use std::marker::Model;
 pub(crate) const BATCH: usize = 8192;
 
 /// Bytes in memory that is there while some of them are to be written. Contracts see those. The ones before them, which were
-/// written, stay until all are.
+/// written, stay until all are, and with them there is never more than a batch, however little each write takes.
 #[derive(Drop)]
 pub(crate) struct Batch {
     alloc: Global,
@@ -24,7 +24,7 @@ impl Model for Batch {
 
     ghost view = { λ b. drop b.written b.bytes.items };
 
-    ghost invariant = { λ b. b.written ≤ length b.bytes.items };
+    ghost invariant = { λ b. (b.written ≤ length b.bytes.items) × (length b.bytes.items ≤ 8192) };
 }
 
 impl Batch {
@@ -53,11 +53,6 @@ impl Batch {
         self.len() == 0
     }
 
-    /// How many bytes may be added, so that it never has more than a batch in memory.
-    pub(crate) fn room(&self) -> usize {
-        BATCH.saturating_sub(self.bytes.len())
-    }
-
     /// The bytes to be written.
     pub(crate) fn as_slice(&self) -> &[u8]
         ensures { result.now ≡ self.now }
@@ -65,10 +60,13 @@ impl Batch {
         &self.bytes.as_slice()[self.written..]
     }
 
-    /// Copies bytes after the others; not where memory for them is refused.
+    /// Copies bytes after the others; not where that would be more than a batch, or memory for them is refused.
     pub(crate) fn add(&mut self, bytes: &[u8]) -> bool
         ensures { self.new ≡ (if result then self.old ++ bytes.now else self.old) }
     {
+        if bytes.len() > BATCH - self.bytes.len() {
+            return false;
+        }
         self.bytes.extend_from_slice(bytes).is_ok()
     }
 

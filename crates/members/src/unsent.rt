@@ -85,9 +85,7 @@ impl Unsent {
     fn add_after(&mut self, message: Delivery)
         ensures { self.old.is_open ≡ true → all_of self.new ≡ all_of self.old ++ message.bytes }
     {
-        let bytes = message.bytes();
-        let has_room = bytes.len() <= self.batch.room();
-        if !has_room || !self.batch.add(bytes.as_slice()) {
+        if !self.batch.add(message.bytes().as_slice()) {
             self.next = Some(WholeMessage::new(message));
         }
     }
