@@ -10,7 +10,6 @@ use Rattle.owners.specs.declared.claim.SlotClaim.{SlotClaim}
 use Rattle.owners.specs.declared.step.Step.{Step}
 use Rattle.owners.specs.declared.step.Step.TheVariants as steps
 use Rattle.owners.specs.Queues.{Claim, is_on, is_claim, has_flag, may_replace, do_not_queue, with_flags, with_last, without, after_requesting, requested_by}
-use Rattle.owners.specs.Registry.{max_claims}
 use Rattle.owners.specs.Kept.{named_claim, name_at, is_on_slot, is_by, is_slot_claim, slot_without, slot_with_flags, claim_put, without_owner, step_of, step_done, is_over}
 use Rattle.owners.proofs.Lists.{Each, Each-weaker, Each-filter, filter-map, find-map, any-map, any-from_none, any-both, map-map_same, length-filter-le, length-without, without_none, length-map}
 use Rattle.owners.proofs.Placed.{Tells, HeldAt, on_agrees, claim_agrees}
@@ -113,76 +112,77 @@ step_shown slots claim name t s claims e =
 
 -- ---- how many claims there are after it
 
-above_is_over : (n : ℕ) → nat_lt max_claims (n + 1) ≡ nat_le max_claims n
-above_is_over n = same_from_decides (nat_lt max_claims (n + 1)) (nat_le max_claims n) (
-  λ h. let k = (Decides-ltb max_claims (n + 1)).0 h in omega arith,
-  λ (h : max_claims ≤ n). (Decides-ltb max_claims (n + 1)).1 (omega arith),
-) (leb-true max_claims n, le-leb max_claims n)
+module _ (most : ℕ) where
+  above_is_over : (n : ℕ) → nat_lt most (n + 1) ≡ nat_le most n
+  above_is_over n = same_from_decides (nat_lt most (n + 1)) (nat_le most n) (
+    λ h. let k = (Decides-ltb most (n + 1)).0 h in omega arith,
+    λ (h : most ≤ n). (Decides-ltb most (n + 1)).1 (omega arith),
+  ) (leb-true most n, le-leb most n)
 
-pub not_above : (n : ℕ) → n ≤ max_claims → nat_lt max_claims n ≡ false
-not_above n h = by (nat_lt max_claims n) refl
-  where
-    by : (b : Bool) → nat_lt max_claims n ≡ b → b ≡ false
-    by true e = let k = (Decides-ltb max_claims n).0 e in absurd (omega arith)
-    by false e = refl
+  pub not_above : (n : ℕ) → n ≤ most → nat_lt most n ≡ false
+  not_above n h = by (nat_lt most n) refl
+    where
+      by : (b : Bool) → nat_lt most n ≡ b → b ≡ false
+      by true e = let k = (Decides-ltb most n).0 e in absurd (omega arith)
+      by false e = refl
 
-flags_keep : (slot connection flags : ℕ) (claims : List SlotClaim) → length (slot_with_flags slot connection flags claims) ≡ length claims
-flags_keep slot connection flags claims = length-map (λ (c : SlotClaim). if is_slot_claim slot connection c then record c { flags = flags } else c) claims
+  flags_keep : (slot connection flags : ℕ) (claims : List SlotClaim) → length (slot_with_flags slot connection flags claims) ≡ length claims
+  flags_keep slot connection flags claims = length-map (λ (c : SlotClaim). if is_slot_claim slot connection c then record c { flags = flags } else c) claims
 
-replace_none : (slot connection : ℕ) (claims : List SlotClaim) → length claims ≤ max_claims → (b : Bool) → list_any (is_slot_claim slot connection) claims ≡ b → nat_lt max_claims (suc (length (slot_without slot connection claims))) ≡ (not b && true && nat_le max_claims (length claims))
-replace_none slot connection claims h true e =
-    let fewer = length-without (is_slot_claim slot connection) claims e in
-    not_above (suc (length (slot_without slot connection claims))) (omega arith)
-replace_none slot connection claims h false e =
-    let n = length claims in
-    let same : length (slot_without slot connection claims) ≡ n = ap length (without_none (is_slot_claim slot connection) claims e) in
-    let more : suc (length (slot_without slot connection claims)) ≡ n + 1 = omega (arith, same) in
-    ap (nat_lt max_claims) more ∙ above_is_over n
+  replace_none : (slot connection : ℕ) (claims : List SlotClaim) → length claims ≤ most → (b : Bool) → list_any (is_slot_claim slot connection) claims ≡ b → nat_lt most (suc (length (slot_without slot connection claims))) ≡ (not b && true && nat_le most (length claims))
+  replace_none slot connection claims h true e =
+      let fewer = length-without (is_slot_claim slot connection) claims e in
+      not_above (suc (length (slot_without slot connection claims))) (omega arith)
+  replace_none slot connection claims h false e =
+      let n = length claims in
+      let same : length (slot_without slot connection claims) ≡ n = ap length (without_none (is_slot_claim slot connection) claims e) in
+      let more : suc (length (slot_without slot connection claims)) ≡ n + 1 = omega (arith, same) in
+      ap (nat_lt most) more ∙ above_is_over n
 
-not_added : (b c : Bool) → (not b && false && c) ≡ false
-not_added true c = refl
-not_added false c = refl
+  not_added : (b c : Bool) → (not b && false && c) ≡ false
+  not_added true c = refl
+  not_added false c = refl
 
-replace_some : (slot connection owner : ℕ) (claims : List SlotClaim) → length claims ≤ max_claims → list_any (is_slot_claim slot owner) claims ≡ true → (b : Bool) → nat_lt max_claims (suc (length (slot_without slot connection (slot_without slot owner claims)))) ≡ (not b && false && nat_le max_claims (length claims))
-replace_some slot connection owner claims h e b =
-    let fewer = length-without (is_slot_claim slot owner) claims e in
-    let no_more = length-filter-le (λ (c : SlotClaim). not (is_slot_claim slot connection c)) (slot_without slot owner claims) in
-    not_above (suc (length (slot_without slot connection (slot_without slot owner claims)))) (omega arith) ∙ sym (not_added b (nat_le max_claims (length claims)))
+  replace_some : (slot connection owner : ℕ) (claims : List SlotClaim) → length claims ≤ most → list_any (is_slot_claim slot owner) claims ≡ true → (b : Bool) → nat_lt most (suc (length (slot_without slot connection (slot_without slot owner claims)))) ≡ (not b && false && nat_le most (length claims))
+  replace_some slot connection owner claims h e b =
+      let fewer = length-without (is_slot_claim slot owner) claims e in
+      let no_more = length-filter-le (λ (c : SlotClaim). not (is_slot_claim slot connection c)) (slot_without slot owner claims) in
+      not_above (suc (length (slot_without slot connection (slot_without slot owner claims)))) (omega arith) ∙ sym (not_added b (nat_le most (length claims)))
 
-put_last_fits : (claim : SlotClaim) (claims : List SlotClaim) → nat_lt max_claims (length (claims ++ claim ∷ [])) ≡ nat_le max_claims (length claims)
-put_last_fits claim claims =
-    let n = length claims in
-    let more : length (claims ++ claim ∷ []) ≡ n + 1 = omega (arith, length-append claims (claim ∷ [])) in
-    ap (nat_lt max_claims) more ∙ above_is_over n
+  put_last_fits : (claim : SlotClaim) (claims : List SlotClaim) → nat_lt most (length (claims ++ claim ∷ [])) ≡ nat_le most (length claims)
+  put_last_fits claim claims =
+      let n = length claims in
+      let more : length (claims ++ claim ∷ []) ≡ n + 1 = omega (arith, length-append claims (claim ∷ [])) in
+      ap (nat_lt most) more ∙ above_is_over n
 
-set_flags_fits : (claim : SlotClaim) (claims : List SlotClaim) → length claims ≤ max_claims → nat_lt max_claims (length (slot_with_flags claim.slot claim.connection claim.flags claims)) ≡ false
-set_flags_fits claim claims h =
-    ap (nat_lt max_claims) (flags_keep claim.slot claim.connection claim.flags claims) ∙ not_above (length claims) h
+  set_flags_fits : (claim : SlotClaim) (claims : List SlotClaim) → length claims ≤ most → nat_lt most (length (slot_with_flags claim.slot claim.connection claim.flags claims)) ≡ false
+  set_flags_fits claim claims h =
+      ap (nat_lt most) (flags_keep claim.slot claim.connection claim.flags claims) ∙ not_above (length claims) h
 
-remove_fits : (claim : SlotClaim) (claims : List SlotClaim) → length claims ≤ max_claims → nat_lt max_claims (length (slot_without claim.slot claim.connection claims)) ≡ false
-remove_fits claim claims h =
-    let fewer = length-filter-le (λ (c : SlotClaim). not (is_slot_claim claim.slot claim.connection c)) claims in
-    not_above (length (slot_without claim.slot claim.connection claims)) (omega arith)
+  remove_fits : (claim : SlotClaim) (claims : List SlotClaim) → length claims ≤ most → nat_lt most (length (slot_without claim.slot claim.connection claims)) ≡ false
+  remove_fits claim claims h =
+      let fewer = length-filter-le (λ (c : SlotClaim). not (is_slot_claim claim.slot claim.connection c)) claims in
+      not_above (length (slot_without claim.slot claim.connection claims)) (omega arith)
 
-put_fits : (claim : SlotClaim) (claims : List SlotClaim) → length claims ≤ max_claims → (waits : Bool) → list_any (is_slot_claim claim.slot claim.connection) claims ≡ waits → nat_lt max_claims (length (claim_put claim claims)) ≡ is_over steps.Put waits (length claims)
-put_fits claim claims h true w = rw w (set_flags_fits claim claims h)
-put_fits claim claims h false w = rw w (put_last_fits claim claims)
+  put_fits : (claim : SlotClaim) (claims : List SlotClaim) → length claims ≤ most → (waits : Bool) → list_any (is_slot_claim claim.slot claim.connection) claims ≡ waits → nat_lt most (length (claim_put claim claims)) ≡ is_over most steps.Put waits (length claims)
+  put_fits claim claims h true w = rw w (set_flags_fits claim claims h)
+  put_fits claim claims h false w = rw w (put_last_fits claim claims)
 
-fits_by_tests : (claim : SlotClaim) (claims : List SlotClaim) → length claims ≤ max_claims → (owner : ℕ) → list_any (is_slot_claim claim.slot owner) claims ≡ true → (waits : Bool) → list_any (is_slot_claim claim.slot claim.connection) claims ≡ waits → (same replaces leaves quits : Bool) →
-    nat_lt max_claims (length (step_done (if same then steps.Put else if replaces then steps.Replace (if quits then Some owner else None) else if leaves then steps.Remove else steps.Put) claim claims))
-    ≡ is_over (if same then steps.Put else if replaces then steps.Replace (if quits then Some owner else None) else if leaves then steps.Remove else steps.Put) waits (length claims)
-fits_by_tests claim claims h owner o waits w true replaces leaves quits = put_fits claim claims h waits w
-fits_by_tests claim claims h owner o waits w false true leaves true = replace_some claim.slot claim.connection owner claims h o waits
-fits_by_tests claim claims h owner o waits w false true leaves false = replace_none claim.slot claim.connection claims h waits w
-fits_by_tests claim claims h owner o waits w false false true quits = remove_fits claim claims h ∙ sym (not_added waits (nat_le max_claims (length claims)))
-fits_by_tests claim claims h owner o waits w false false false quits = put_fits claim claims h waits w
+  fits_by_tests : (claim : SlotClaim) (claims : List SlotClaim) → length claims ≤ most → (owner : ℕ) → list_any (is_slot_claim claim.slot owner) claims ≡ true → (waits : Bool) → list_any (is_slot_claim claim.slot claim.connection) claims ≡ waits → (same replaces leaves quits : Bool) →
+      nat_lt most (length (step_done (if same then steps.Put else if replaces then steps.Replace (if quits then Some owner else None) else if leaves then steps.Remove else steps.Put) claim claims))
+      ≡ is_over most (if same then steps.Put else if replaces then steps.Replace (if quits then Some owner else None) else if leaves then steps.Remove else steps.Put) waits (length claims)
+  fits_by_tests claim claims h owner o waits w true replaces leaves quits = put_fits claim claims h waits w
+  fits_by_tests claim claims h owner o waits w false true leaves true = replace_some claim.slot claim.connection owner claims h o waits
+  fits_by_tests claim claims h owner o waits w false true leaves false = replace_none claim.slot claim.connection claims h waits w
+  fits_by_tests claim claims h owner o waits w false false true quits = remove_fits claim claims h ∙ sym (not_added waits (nat_le most (length claims)))
+  fits_by_tests claim claims h owner o waits w false false false quits = put_fits claim claims h waits w
 
-fits_by_first : (claim : SlotClaim) (claims : List SlotClaim) → length claims ≤ max_claims → (o : Option SlotClaim) → find (is_on_slot claim.slot) claims ≡ o →
-    nat_lt max_claims (length (step_done (step_of o claim.connection claim.flags) claim claims)) ≡ is_over (step_of o claim.connection claim.flags) (list_any (is_slot_claim claim.slot claim.connection) claims) (length claims)
-fits_by_first claim claims h None e = put_fits claim claims h (list_any (is_slot_claim claim.slot claim.connection) claims) refl
-fits_by_first claim claims h (Some owner) e =
-    fits_by_tests claim claims h owner.connection (owner_claims claim.slot claims owner e) (list_any (is_slot_claim claim.slot claim.connection) claims) refl (owner.connection == claim.connection) (has_flag owner.flags 1 && has_flag claim.flags 2) (has_flag claim.flags do_not_queue) (has_flag owner.flags do_not_queue)
+  fits_by_first : (claim : SlotClaim) (claims : List SlotClaim) → length claims ≤ most → (o : Option SlotClaim) → find (is_on_slot claim.slot) claims ≡ o →
+      nat_lt most (length (step_done (step_of o claim.connection claim.flags) claim claims)) ≡ is_over most (step_of o claim.connection claim.flags) (list_any (is_slot_claim claim.slot claim.connection) claims) (length claims)
+  fits_by_first claim claims h None e = put_fits claim claims h (list_any (is_slot_claim claim.slot claim.connection) claims) refl
+  fits_by_first claim claims h (Some owner) e =
+      fits_by_tests claim claims h owner.connection (owner_claims claim.slot claims owner e) (list_any (is_slot_claim claim.slot claim.connection) claims) refl (owner.connection == claim.connection) (has_flag owner.flags 1 && has_flag claim.flags 2) (has_flag claim.flags do_not_queue) (has_flag owner.flags do_not_queue)
 
--- the test of the room is exact
-pub step_fits : (claim : SlotClaim) (claims : List SlotClaim) → length claims ≤ max_claims → nat_lt max_claims (length (step_done (step_for claim claims) claim claims)) ≡ is_over (step_for claim claims) (list_any (is_slot_claim claim.slot claim.connection) claims) (length claims)
-step_fits claim claims h = fits_by_first claim claims h (find (is_on_slot claim.slot) claims) refl
+  -- the test of the room is exact
+  pub step_fits : (claim : SlotClaim) (claims : List SlotClaim) → length claims ≤ most → nat_lt most (length (step_done (step_for claim claims) claim claims)) ≡ is_over most (step_for claim claims) (list_any (is_slot_claim claim.slot claim.connection) claims) (length claims)
+  step_fits claim claims h = fits_by_first claim claims h (find (is_on_slot claim.slot) claims) refl

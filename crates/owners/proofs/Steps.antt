@@ -90,24 +90,32 @@ reply_shown slots (Some owner) connection flags = refl
 answer_by : (n : Option ℕ) (slot : ℕ) → n ≡ Some slot → (over : Bool) (named : Named) → (if is_none n then Err NamesFull else if over then Err QueueFull else Ok named) ≡ (if over then Err QueueFull else Ok named)
 answer_by n slot e over named = rw e refl
 
--- what a request is answered, where the name has a slot or gets one
-pub request_answered : (claims : List SlotClaim) (slots : List (Option Holding)) → IsKept claims slots → (claim : SlotClaim) (name : List ℕ) → slot_next name slots ≡ Some claim.slot → (over : Bool) → is_over (step_for claim claims) (list_any (is_slot_claim claim.slot claim.connection) claims) (length claims) ≡ over →
-    request_answer name claim.connection claim.flags (registry claims slots) ≡ (if over then Err QueueFull else Ok (record { answer = reply_of (find (is_on_slot claim.slot) claims) claim.connection claim.flags; change = change_for name (reply_of (find (is_on_slot claim.slot) claims) claim.connection claim.flags) (slot_owner claim.slot claims) claim.connection }))
-request_answered claims slots p claim name n over o =
+-- how many claims there are after a request, where the name has a slot or gets one
+pub request_length : (claims : List SlotClaim) (slots : List (Option Holding)) → IsKept claims slots → (claim : SlotClaim) (name : List ℕ) → slot_next name slots ≡ Some claim.slot →
+    length (after_requesting name claim.connection claim.flags (map (named_claim slots) claims)) ≡ length (step_done (step_for claim claims) claim claims)
+request_length claims slots p claim name n =
     let evidence = next_tells claims slots p.placed name claim.slot n in
     let after = held_slots slots claim.slot name 0 in
     let new : Holding = record { name = name; rules = 0 } in
     let at : slice_get after claim.slot ≡ Some (Some new) = slice_get-set_same slots claim.slot (Some new) evidence.1 in
     let held = each_held claims slots p.placed.held in
-    let names = map (named_claim slots) claims in
-    let connection = claim.connection in
-    let flags = claim.flags in
     let held_after = each_held_still slots claim.slot name 0 evidence.1 evidence.0 claims held in
     let placed_after = placed_still claims slots p.placed claim.slot name 0 evidence.1 evidence.0 in
     let told_after = tells_own claims after placed_after claim.slot new name at refl in
-    let same = step_shown after claim name told_after (ap name_at at) claims held_after ∙ ap (after_requesting name connection flags) (shown_still slots claim.slot name 0 evidence.1 evidence.0 claims held) in
-    let length_is : length (after_requesting name connection flags names) ≡ length (step_done (step_for claim claims) claim claims) = ap length (sym same) ∙ length-map (named_claim after) (step_done (step_for claim claims) claim claims) in
-    let over_is : nat_lt max_claims (length (after_requesting name connection flags names)) ≡ over = ap (nat_lt max_claims) length_is ∙ step_fits claim claims p.placed.fits ∙ o in
+    let same = step_shown after claim name told_after (ap name_at at) claims held_after ∙ ap (after_requesting name claim.connection claim.flags) (shown_still slots claim.slot name 0 evidence.1 evidence.0 claims held) in
+    ap length (sym same) ∙ length-map (named_claim after) (step_done (step_for claim claims) claim claims)
+
+-- what a request is answered, where the name has a slot or gets one
+pub request_answered : (claims : List SlotClaim) (slots : List (Option Holding)) → IsKept claims slots → (claim : SlotClaim) (name : List ℕ) → slot_next name slots ≡ Some claim.slot → (over : Bool) → is_over max_claims (step_for claim claims) (list_any (is_slot_claim claim.slot claim.connection) claims) (length claims) ≡ over →
+    request_answer name claim.connection claim.flags (registry claims slots) ≡ (if over then Err QueueFull else Ok (record { answer = reply_of (find (is_on_slot claim.slot) claims) claim.connection claim.flags; change = change_for name (reply_of (find (is_on_slot claim.slot) claims) claim.connection claim.flags) (slot_owner claim.slot claims) claim.connection }))
+request_answered claims slots p claim name n over o =
+    let evidence = next_tells claims slots p.placed name claim.slot n in
+    let held = each_held claims slots p.placed.held in
+    let names = map (named_claim slots) claims in
+    let connection = claim.connection in
+    let flags = claim.flags in
+    let length_is = request_length claims slots p claim name n in
+    let over_is : nat_lt max_claims (length (after_requesting name connection flags names)) ≡ over = ap (nat_lt max_claims) length_is ∙ step_fits max_claims claim claims p.placed.fits ∙ o in
     let reply_is : request_reply (first_claim name names) connection flags ≡ reply_of (find (is_on_slot claim.slot) claims) connection flags =
     ap (λ (f : Option Claim). request_reply f connection flags) (find-map (is_on name) (is_on_slot claim.slot) (named_claim slots) claims (on_agrees slots claim.slot name evidence.0 claims held)) ∙ reply_shown slots (find (is_on_slot claim.slot) claims) connection flags in
     let change_is : change_between name names (after_requesting name connection flags names) ≡ change_for name (reply_of (find (is_on_slot claim.slot) claims) connection flags) (slot_owner claim.slot claims) connection =

@@ -92,8 +92,8 @@ adds steps.Put = true
 adds steps.Remove = false
 adds (steps.Replace leaving) = is_none leaving
 
-abbrev pub is_over : Step → Bool → ℕ → Bool
-is_over step waits len = not waits && adds step && nat_le max_claims len
+abbrev pub is_over : ℕ → Step → Bool → ℕ → Bool
+is_over most step waits len = not waits && adds step && nat_le most len
 
 -- the owner of the name that has the slot
 abbrev pub slot_owner : ℕ → List SlotClaim → Option ℕ

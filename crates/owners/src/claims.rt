@@ -8,7 +8,7 @@ use crate::holding::rules_at;
 use crate::holdings::Holdings;
 use crate::least::{copy_of, least_after, least_of};
 use crate::marks::owned_slots;
-use crate::plan::plan_of;
+use crate::plan::{adds_claim, plan_of};
 use crate::queue::Queue;
 use crate::release::{dropped_by, release_answer};
 use crate::step::do_step;
@@ -21,10 +21,10 @@ use summary::Slots;
 pub const MAX_NAMES: usize = 1024;
 
 /// How many claims there can be.
-pub const MAX_CLAIMS: usize = 4096;
+pub const MAX_CLAIMS: usize = 16384;
 
 /// How many rules can have one name as their sender.
-pub const MAX_RULES: u32 = 16384;
+pub const MAX_RULES: u32 = 65534;
 
 /// The claims of connections on well-known names, and the slots of the names. All its room is taken by `new`.
 #[derive(Drop)]
@@ -46,9 +46,9 @@ impl Model for Claims {
 }
 
 impl Claims {
-    ghost use Rattle.std.specs.Prelude.{◌≡◌, ◌<◌, ◌+◌, ℕ, List, Some, option_map, IfOk};
+    ghost use Rattle.std.specs.Prelude.{◌≡◌, ◌<◌, ◌+◌, ℕ, List, Some, option_map, IfOk, IfSome, length, nat_lt};
     ghost use Rattle.summary.specs.Sets.{has_slot, IsSet};
-    ghost use Rattle.owners.specs.Queues.{owner_of, queue_of};
+    ghost use Rattle.owners.specs.Queues.{owner_of, queue_of, after_requesting};
     ghost use Rattle.owners.specs.Registry.{IsRegistry, opening, slot_of, slot_next, rules_of, request_answer, after_request, release_answer, after_release, least_of, drop_one_answer, after_drop_one, after_drop_all, after_slot_for, after_slot_free, slot_for_answer, is_owned_slot, next_name};
 
     /// No claims and no names.
@@ -75,12 +75,28 @@ impl Claims {
         Ok(plan.named)
     }
 
+    /// How many claims there are.
+    pub fn len(&self) -> usize
+        ensures len { result ≡ length self.now.claims }
+        ensures registry { IsRegistry self.now }
+    {
+        self.claims.len()
+    }
+
+    /// Whether `request` for a name that has a slot or gets one would make one more claim, were it not refused.
+    pub fn request_adds(&self, name: &WellKnown, connection: u64, flags: u32) -> bool
+        ensures adds { IfSome (slot_next name.now self.now.slots) (λ _. result ≡ nat_lt (length self.now.claims) (length (after_requesting name.now connection flags self.now.claims))) }
+        ensures registry { IsRegistry self.now }
+    {
+        adds_claim(&self.claims, &self.slots, name, connection, flags)
+    }
+
     /// A connection asks for a name (RequestName). After an error nothing has changed.
     ///
     /// # Errors
     ///
     /// NamesFull where the name has no slot and none is free, then QueueFull where there would be more than
-    /// 4,096 claims.
+    /// 16,384 claims.
     pub fn request(
         &mut self,
         name: &WellKnown,
@@ -235,7 +251,7 @@ impl Claims {
     ///
     /// NamesFull where the name has no slot and none is free.
     pub fn slot_for(&mut self, name: &WellKnown) -> Result<u16, ClaimError>
-        requires { rules_of name.now self.old.slots < 16384 }
+        requires { rules_of name.now self.old.slots < 65534 }
         ensures slot { result ≡ slot_for_answer name.now self.old }
         ensures after { self.new ≡ after_slot_for name.now self.old }
         ensures registry { IsRegistry self.new }

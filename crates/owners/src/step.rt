@@ -7,7 +7,6 @@ ghost use Rattle.owners.specs.Kept.{leaving_owner, reply_of, step_of, step_done,
 use crate::answer::NameReply;
 use crate::claim::SlotClaim;
 use crate::claim_list::ClaimList;
-use crate::claims::MAX_CLAIMS;
 
 /// The claim may be replaced (DBUS_NAME_FLAG_ALLOW_REPLACEMENT).
 const ALLOW_REPLACEMENT: u32 = 1;
@@ -103,12 +102,12 @@ fn adds(step: Step) -> bool
     }
 }
 
-/// Whether the step makes one claim more than there may be, where there are `len` claims and `waits` says whether
-/// the connection has one on the name.
-pub(crate) fn is_over(step: Step, waits: bool, len: usize) -> bool
-    ensures { result ≡ is_over step waits len }
+/// Whether the step makes one claim more than `most`, where there are `len` claims and `waits` says whether the
+/// connection has one on the name.
+pub(crate) fn is_over(most: usize, step: Step, waits: bool, len: usize) -> bool
+    ensures { result ≡ is_over most step waits len }
 {
-    !waits && adds(step) && len >= MAX_CLAIMS
+    !waits && adds(step) && len >= most
 }
 
 /// The owner's claim goes, if it leaves.
@@ -122,7 +121,7 @@ fn remove_leaving(claims: &mut ClaimList, slot: u16, leaving: Option<u64>)
 
 /// Does the step of a request.
 pub(crate) fn do_step(claims: &mut ClaimList, step: Step, claim: SlotClaim)
-    requires { length (step_done step claim claims.old) ≤ 4096 }
+    requires { length (step_done step claim claims.old) ≤ 16384 }
     ensures { claims.new ≡ step_done step claim claims.old }
 {
     match step {

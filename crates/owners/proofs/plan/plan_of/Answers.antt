@@ -24,7 +24,7 @@ returns-then-is_over c =
     let next : slot_next name ss ≡ Some slot = sym (c.in-Some.ensures ∙ ap (λ t. slot_next t ss) c.as_str.ensures) in
     let owner_is : c.first_on-owner.result ≡ find (is_on_slot slot) cs = c.first_on-owner.ensures ∙ ap (find (is_on_slot slot)) c.as_slice.ensures.value in
     let step_is : c.step_of-step.result ≡ step_for claim cs = c.step_of-step.ensures ∙ ap (λ o. step_of o connection flags) owner_is in
-    let over_is : c.is_over.result ≡ is_over (step_for claim cs) (list_any (is_slot_claim slot connection) cs) (length cs) = c.is_over.ensures ∙ ap (λ (s : Step). is_over s c.has-waits.result c.len.result) step_is ∙ ap (λ w. is_over (step_for claim cs) w c.len.result) c.has-waits.ensures ∙ ap (is_over (step_for claim cs) (list_any (is_slot_claim slot connection) cs)) c.len.ensures in
+    let over_is : c.is_over.result ≡ is_over max_claims (step_for claim cs) (list_any (is_slot_claim slot connection) cs) (length cs) = c.is_over.ensures ∙ ap (λ (s : Step). is_over max_claims s c.has-waits.result c.len.result) step_is ∙ ap (λ w. is_over max_claims (step_for claim cs) w c.len.result) c.has-waits.ensures ∙ ap (is_over max_claims (step_for claim cs) (list_any (is_slot_claim slot connection) cs)) c.len.ensures in
     request_answered cs ss c.requires claim name next true (sym over_is ∙ c.if-is_over.true)
 
 below : (n : ℕ) → nat_lt max_claims n ≡ false → n ≤ max_claims
@@ -42,9 +42,9 @@ returns c =
     let next : slot_next name ss ≡ Some slot = sym (c.in-Some.ensures ∙ ap (λ t. slot_next t ss) c.as_str.ensures) in
     let owner_is : c.first_on-owner.result ≡ find (is_on_slot slot) cs = c.first_on-owner.ensures ∙ ap (find (is_on_slot slot)) c.as_slice.ensures.value in
     let step_is : c.step_of-step.result ≡ step_for claim cs = c.step_of-step.ensures ∙ ap (λ o. step_of o connection flags) owner_is in
-    let over_is : c.is_over.result ≡ is_over (step_for claim cs) (list_any (is_slot_claim slot connection) cs) (length cs) = c.is_over.ensures ∙ ap (λ (s : Step). is_over s c.has-waits.result c.len.result) step_is ∙ ap (λ w. is_over (step_for claim cs) w c.len.result) c.has-waits.ensures ∙ ap (is_over (step_for claim cs) (list_any (is_slot_claim slot connection) cs)) c.len.ensures in
+    let over_is : c.is_over.result ≡ is_over max_claims (step_for claim cs) (list_any (is_slot_claim slot connection) cs) (length cs) = c.is_over.ensures ∙ ap (λ (s : Step). is_over max_claims s c.has-waits.result c.len.result) step_is ∙ ap (λ w. is_over max_claims (step_for claim cs) w c.len.result) c.has-waits.ensures ∙ ap (is_over max_claims (step_for claim cs) (list_any (is_slot_claim slot connection) cs)) c.len.ensures in
     let not_over = sym over_is ∙ c.if-is_over.false in
-    let fits = below (length (step_done (step_for claim cs) claim cs)) (step_fits claim cs c.requires.placed.fits ∙ not_over) in
+    let fits = below (length (step_done (step_for claim cs) claim cs)) (step_fits max_claims claim cs c.requires.placed.fits ∙ not_over) in
     let old_is : c.connection_of.result ≡ slot_owner slot cs = c.connection_of.ensures ∙ ap (option_map (λ (x : SlotClaim). x.connection)) owner_is in
     let reply_is : c.reply_of-answer.result ≡ reply_of (find (is_on_slot slot) cs) connection flags = c.reply_of-answer.ensures ∙ ap (λ o. reply_of o connection flags) owner_is in
     let change_is = c.change_for-change.ensures ∙ ap (λ (a : NameReply). change_for name a c.connection_of.result connection) reply_is ∙ ap (λ o. change_for name (reply_of (find (is_on_slot slot) cs) connection flags) o connection) old_is in
