@@ -237,7 +237,7 @@ AreGiven-more last [] h = tt
 AreGiven-more last (x ∷ xs) h = (omega (arith, h.0), AreGiven-more last xs h.1)
 
 -- the table with one more entry
-pub IsTable-more : (place : ℕ) (e : Entry) (held : List Placed) (last count : ℕ) → IsTable held last count → e.id ≡ last + 1 → length held < 16384 → IsTable ((place, e) ∷ held) (last + 1) (count + 1)
+pub IsTable-more : (place : ℕ) (e : Entry) (held : List Placed) (last count : ℕ) → IsTable held last count → e.id ≡ last + 1 → length held < 65534 → IsTable ((place, e) ∷ held) (last + 1) (count + 1)
 IsTable-more place e held last count h id few = record {
   ids = (subst (λ (k : ℕ). AreBelow k held) (sym id) (AreBelow-last last held h.below_last), h.ids);
   below_last = (omega (arith, id), AreGiven-more last held h.below_last);

@@ -18,15 +18,15 @@ no_entries = record { entries = []; last = 0 }
 abbrev pub max_id : ℕ
 max_id = 4294967295
 
--- no entry can be added: there are 16,384, or the greatest id was given
+-- no entry can be added: there are 65,534, or the greatest id was given
 abbrev pub is_full : Entries → Bool
-is_full all = nat_le 16384 (length all.entries) || all.last == max_id
+is_full all = nat_le 65534 (length all.entries) || all.last == max_id
 
 -- what is true of every table: ids rise, none is above the last that was given, and there is room for each entry
 pub record AreEntries (all : Entries) : Type 0 where
   pub rising : AllPairs (λ (e f : Entry). e.id < f.id) all.entries
   pub below_last : All (λ (e : Entry). e.id ≤ all.last) all.entries
-  pub few : length all.entries ≤ 16384
+  pub few : length all.entries ≤ 65534
 
 -- the connection has the entry
 abbrev pub is_of : ℕ → Entry → Bool

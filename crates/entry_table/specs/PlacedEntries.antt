@@ -9,7 +9,7 @@ Placed = ℕ × Entry
 
 -- how many places there are
 abbrev pub room : ℕ
-room = 16384
+room = 65534
 
 -- one more entry, after those of higher ids
 abbrev pub by_id : Placed → List Placed → List Placed

@@ -54,5 +54,5 @@ IdsFall (x ∷ xs) = AreBelow x.1.id xs × IdsFall xs
 pub record IsTable (held : List Placed) (last count : ℕ) : Type 0 where
   pub ids : IdsFall held
   pub below_last : AreGiven last held
-  pub few : length held ≤ 16384
+  pub few : length held ≤ 65534
   pub counted : count ≡ length held

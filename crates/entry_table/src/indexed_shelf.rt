@@ -53,7 +53,7 @@ impl IndexedShelf {
 
     /// Puts an entry, newer than all others, at a place that none has.
     pub(crate) fn put(&mut self, entry: Entry) -> u16
-        requires few { length self.old < 16384 }
+        requires few { length self.old < 65534 }
         requires newest { AreBelow entry.id self.old }
         ensures { self.new ≡ (result, entry) ∷ self.old }
     {

@@ -45,11 +45,11 @@ impl Shelf {
 
     /// Puts an entry, newer than all others, at a place that none has.
     pub(crate) fn put(&mut self, entry: Entry) -> u16
-        requires few { length self.old < 16384 }
+        requires few { length self.old < 65534 }
         requires newest { AreBelow entry.id self.old }
         ensures put { self.new ≡ (result, entry) ∷ self.old }
         ensures fresh { has_place result (places_of self.old) ≡ false }
-        ensures below { result < 16384 }
+        ensures below { result < 65534 }
     {
         self.entries.insert_reserved(entry) as u16
     }

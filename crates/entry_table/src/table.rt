@@ -11,7 +11,7 @@ use std::alloc::{AllocError, Global};
 use std::marker::Model;
 
 /// How many entries a table holds at most.
-pub const MAX_ENTRIES: usize = 16384;
+pub const MAX_ENTRIES: usize = 65534;
 
 /// The entries of a bus, by rising id.
 #[derive(Drop)]
@@ -57,13 +57,13 @@ impl EntryTable {
     /// The id that was given last, 0 where none was.
     pub fn last_id(&self) -> u32
         ensures value { result ≡ self.now.last }
-        // Ids rise, none is above the last, and there are at most 16,384.
+        // Ids rise, none is above the last, and there are at most 65,534.
         ensures sound { AreEntries self.now }
     {
         self.last
     }
 
-    /// Whether no entry can be added: there are 16,384, or the greatest id was given.
+    /// Whether no entry can be added: there are 65,534, or the greatest id was given.
     pub fn is_full(&self) -> bool
         ensures { result ≡ is_full self.now }
     {

@@ -62,7 +62,7 @@ module _ {M : Type 0} where
     );
   }
 
-  pub offered_fit : (s : State M) (m : Message) (offers : List Entry) → IsState s → AreOffered s.registrations.entries (texts_of m) offers → length offers ≤ 16384
+  pub offered_fit : (s : State M) (m : Message) (offers : List Entry) → IsState s → AreOffered s.registrations.entries (texts_of m) offers → length offers ≤ 65534
   offered_fit s m offers is are =
       let few = offered_few s m offers are in
       let kept = length-filter (λ (e : Entry). is_candidate m e.filter) s.registrations.entries in

@@ -15,6 +15,6 @@ pub invariant_of-self : goal.invariant_of-self
 invariant_of-self c =
     let i = c.self.inside in
     let entry : Entry = record { id = i.last + 1; connection = c.args.connection; filter = c.args.filter } in
-    let parts = or_parts (nat_le 16384 (length c.args.self.now.entries)) (eqb c.args.self.now.last max_id) c.requires in
-    let few : length i.shelf < 16384 = omega (arith, leb-false 16384 (length c.args.self.now.entries) parts.0, ap (λ (t : Entries). length t.entries) c.self.view_is, length-entries_of i.shelf) in
+    let parts = or_parts (nat_le 65534 (length c.args.self.now.entries)) (eqb c.args.self.now.last max_id) c.requires in
+    let few : length i.shelf < 65534 = omega (arith, leb-false 65534 (length c.args.self.now.entries) parts.0, ap (λ (t : Entries). length t.entries) c.self.view_is, length-entries_of i.shelf) in
     subst (λ (held : List Placed). IsTable held (i.last + 1) (i.count + 1)) (sym c.put.ensures) (IsTable-more c.put.result entry i.shelf i.last i.count c.self.invariant refl few)
