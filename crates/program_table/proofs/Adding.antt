@@ -197,9 +197,9 @@ fits_next (Some other) name slot slots is e =
     fits_at (slot_next name slots) slot (subst (λ (w : List ℕ). slot_fits (Some w) slot slots ≡ Ok tt) same e)
 
 -- there is room where none refuses
-pub room_left : (r : Registrations) → has_room r ≡ Ok tt → length r.entries < 16384
-room_left r e = go (nat_le 16384 (length r.entries)) refl e
+pub room_left : (r : Registrations) → has_room r ≡ Ok tt → length r.entries < 65534
+room_left r e = go (nat_le 65534 (length r.entries)) refl e
   where
-    go : (b : Bool) → nat_le 16384 (length r.entries) ≡ b → refuse_if (b || r.last_entry == 4294967295) EntriesFull ≡ Ok tt → length r.entries < 16384
+    go : (b : Bool) → nat_le 65534 (length r.entries) ≡ b → refuse_if (b || r.last_entry == 4294967295) EntriesFull ≡ Ok tt → length r.entries < 65534
     go true is f = cc
     go false is f = grind (arith, nat_tests)

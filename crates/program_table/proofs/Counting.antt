@@ -50,6 +50,10 @@ module _ {M : Type 0} where
       let le = le_test c.commands n parts.0 in
       and_from _ _ (test_le c.commands (n + 1) (omega (arith, le))) (below_next n cs parts.1)
 
+  -- a command of nobody is counted
+  pub counts_limited : (n : ℕ) (c : ConnectionList M) → AreCounts n c → AreCounts (n + 1) c
+  counts_limited n c h = record { numbered = omega (arith, h.numbered); counted = below_next n c.connections h.counted }
+
   below_others : (number n : ℕ) (cs : List (Connection M)) → AreBelow n cs → AreBelow n (without_connection number cs)
   below_others number n [] h = refl
   below_others number n (c ∷ cs) h =

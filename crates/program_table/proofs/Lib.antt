@@ -5,6 +5,7 @@ mod SenderNames
 mod Counting
 mod OfConnections
 mod Kept
+mod Within
 mod Tying
 mod Adding
 mod Beginning

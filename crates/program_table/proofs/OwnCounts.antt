@@ -6,7 +6,7 @@ use Rattle.std.proofs.lemmas.Bool.Decides.{nat_tests}
 use Rattle.std.proofs.lemmas.Bool.{and_parts, and_from}
 use Rattle.program_table.specs.declared.connection.Connection.{Connection}
 use Rattle.program_table.specs.declared.command.Command.{Command}
-use Rattle.program_table.specs.declared.command.Command.TheVariants.{Connect, AddRule, RemoveRule, Attach, Detach, Request, Release, DropOne, Close}
+use Rattle.program_table.specs.declared.command.Command.TheVariants.{Limit, Connect, AddRule, RemoveRule, Attach, Detach, Request, Release, DropOne, Close}
 use Rattle.program_table.specs.declared.command.Reply.{Reply}
 use Rattle.program_table.specs.declared.refusal.Refusal.{Refusal}
 use Rattle.program_table.specs.declared.refusal.Refusal.TheVariants as refusals
@@ -188,7 +188,8 @@ module _ {M : Type 0} where
 
   -- the command closes the connection
   abbrev closes : ℕ → Command M → Bool
-  closes c (Connect m most) = false
+  closes c (Limit most) = false
+  closes c (Connect m) = false
   closes c (AddRule d compiled) = false
   closes c (RemoveRule d rule) = false
   closes c (Attach d attachment) = false
@@ -231,7 +232,16 @@ module _ {M : Type 0} where
     }
 
     step : (x : Command M) → is_ok (row s x) ≡ true → Stepped c s (effect s x) (is_command_of s c x) (closes c x)
-    step (Connect m most) ok = record {
+    step (Limit most) ok = record {
+      counts = refl;
+      below_last = g;
+      mine = λ e. omega arith;
+      gone = λ e. absurd (cc);
+      stays = λ e le. (e, le);
+      grows = omega arith;
+      low = λ e. absurd (cc);
+    }
+    step (Connect m) ok = record {
       counts = refl;
       below_last = given_first s.last_connection m s.connections g;
       mine = λ e. counted_first c s.last_connection m s.connections g;

@@ -14,6 +14,7 @@ use Rattle.program_table.specs.declared.refusal.Refusal.TheVariants as refusals
 use Rattle.program_table.specs.Connections.{is_connected}
 use Rattle.program_table.specs.SlotNames.{slot_next}
 use Rattle.program_table.specs.Refusals.{◌>>=◌, refuse_if}
+use Rattle.program_table.specs.Capacities.{rule_within}
 use Rattle.program_table.specs.Answers.{max_entries, slot_asked, slot_fits}
 use Rattle.program_table.specs.State.{State}
 use Rattle.program_table.specs.Does.{reply_of, answer_of, max_commands}
@@ -29,6 +30,10 @@ agree_if : {A : Type 0} (b : Bool) (refusal : Refusal) (r : Result A Refusal) (o
     → Agree (refuse_if b refusal >>= (λ _. r)) (refuse_if b refusal >>= (λ _. other))
 agree_if true refusal r other h = refl
 agree_if false refusal r other h = h
+
+agree_after : {A : Type 0} (t : Result (Unit {0}) Refusal) (r : Result A Refusal) (other : Result Reply Refusal) → Agree r other → Agree (t >>= (λ _. r)) (t >>= (λ _. other))
+agree_after (Ok x) r other h = h
+agree_after (Err refusal) r other h = refl
 
 agree_at : {A : Type 0} (b : Bool) (r : Result A Refusal) (other : Result Reply Refusal) → Agree r other
     → Agree (if b then Err refusals.Closed else r) (if b then Err refusals.Closed else other)
@@ -51,6 +56,10 @@ asked_if : {A : Type 0} (b : Bool) (refusal : Refusal) (P : A → Type 0) (r : R
 asked_if true refusal P r h = tt
 asked_if false refusal P r h = h
 
+asked_after : {A : Type 0} (t : Result (Unit {0}) Refusal) (P : A → Type 0) (r : Result A Refusal) → IfOk r P → IfOk (t >>= (λ _. r)) P
+asked_after (Ok x) P r h = h
+asked_after (Err refusal) P r h = tt
+
 asked_at : {A : Type 0} (b : Bool) (P : A → Type 0) (r : Result A Refusal) → IfOk r P → IfOk (if b then Err refusals.Closed else r) P
 asked_at true P r h = tt
 asked_at false P r h = h
@@ -65,8 +74,9 @@ module _ {M : Type 0} where
       let r = s.registrations in
       agree_at (nat_le max_commands s.commands) _ _
       (agree_if (not (is_connected c s.connections)) refusals.Closed _ _
+      (agree_after (rule_within s.capacity (sender_name_of rule) r) _ _
       (agree_if (nat_le max_entries (length r.entries) || r.last_entry == max_id) refusals.EntriesFull _ _
-      (agree_names (sender_name_of rule) r.slots (r.last_entry + 1))))
+      (agree_names (sender_name_of rule) r.slots (r.last_entry + 1)))))
 
   asks : (s : State M) (c : ℕ) (rule : RuleTree) → IfOk (rule_slot_of s c rule) (λ slot. slot ≡ slot_asked (sender_name_of rule) s.registrations.slots)
   asks s c rule =
@@ -74,7 +84,8 @@ module _ {M : Type 0} where
       let P : Option ℕ → Type 0 = λ slot. slot ≡ slot_asked (sender_name_of rule) r.slots in
       asked_at (nat_le max_commands s.commands) P _
       (asked_if (not (is_connected c s.connections)) refusals.Closed P _
-      (asked_if (nat_le max_entries (length r.entries) || r.last_entry == max_id) refusals.EntriesFull P _ (asked (sender_name_of rule) r.slots)))
+      (asked_after (rule_within s.capacity (sender_name_of rule) r) P _
+      (asked_if (nat_le max_entries (length r.entries) || r.last_entry == max_id) refusals.EntriesFull P _ (asked (sender_name_of rule) r.slots))))
 
   cases : (s : State M) (c : ℕ) (rule : RuleTree) (result : Result (Option ℕ) Refusal)
       → ((program : List Ins) → Agree result (answer_of s (add_of s c rule program)))

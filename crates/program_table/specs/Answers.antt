@@ -19,7 +19,7 @@ use Rattle.program_table.specs.Refusals.{◌>>=◌, refuse_if}
 
 -- how many entries a bus has at most
 abbrev pub max_entries : ℕ
-max_entries = 16384
+max_entries = 65534
 
 -- there is room for an entry, and an id
 abbrev pub has_room : Registrations → Result (Unit {0}) Refusal

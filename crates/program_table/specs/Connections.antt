@@ -7,10 +7,6 @@ use Rattle.program_table.specs.declared.connection.Connection.{Connection}
 abbrev pub max_connections : ℕ
 max_connections = 4096
 
--- how many it has at most that isn't told otherwise
-abbrev pub standard_connections : ℕ
-standard_connections = 256
-
 module _ {M : Type 0} where
   -- there are this many connections, or as many as there may be at most
   abbrev pub are_full : ℕ → List (Connection M) → Bool

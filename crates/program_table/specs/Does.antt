@@ -5,11 +5,13 @@ use Rattle.match_rule.specs.RuleTree.{sender_name_of}
 use Rattle.owners.specs.Registry.{least_of}
 use Rattle.entry_table.specs.declared.entry.Filter.TheVariants.{Rule, Attached}
 use Rattle.program_table.specs.declared.command.Command.{Command}
-use Rattle.program_table.specs.declared.command.Command.TheVariants.{Connect, AddRule, RemoveRule, Attach, Detach, Request, Release, DropOne, Close}
+use Rattle.program_table.specs.declared.command.Command.TheVariants.{Limit, Connect, AddRule, RemoveRule, Attach, Detach, Request, Release, DropOne, Close}
 use Rattle.program_table.specs.declared.command.Reply.{Reply}
 use Rattle.program_table.specs.declared.command.Reply.TheVariants as replies
 use Rattle.program_table.specs.declared.refusal.Refusal.{Refusal}
 use Rattle.program_table.specs.declared.refusal.Refusal.TheVariants as refusals
+use Rattle.program_table.specs.declared.capacity.Capacity.{Capacity}
+use Rattle.program_table.specs.Capacities.{entry_within, rule_within, claim_within}
 use Rattle.program_table.specs.Connections.{are_full, is_connected, with_command, without_connection}
 use Rattle.program_table.specs.Registrations.{Registrations, with_entry, with_sender, without_entry, with_request, without_claim, without_all_of}
 use Rattle.program_table.specs.State.{State}
@@ -30,28 +32,32 @@ module _ {M : Type 0} where
   abbrev pub refuse_unconnected : ℕ → State M → Result (Unit {0}) Refusal
   refuse_unconnected c s = refuse_if (not (is_connected c s.connections)) refusals.Closed
 
-  abbrev pub connect_row : ℕ → State M → Result Reply Refusal
-  connect_row most s = do
-    few ← refuse_if (are_full most s.connections) refusals.ConnectionsFull
+  abbrev pub connect_row : State M → Result Reply Refusal
+  connect_row s = do
+    few ← refuse_if (are_full s.capacity.connections s.connections) refusals.ConnectionsFull
     Ok (replies.Connected (s.last_connection + 1))
 
   -- A row: what refuses the command, in this order, and what it is answered where nothing does.
   abbrev pub row : State M → Command M → Result Reply Refusal
-  row s (Connect m most) = connect_row most s
+  row s (Limit most) = Ok replies.Done
+  row s (Connect m) = connect_row s
   row s (AddRule c compiled) = do
     there ← refuse_unconnected c s
+    within ← rule_within s.capacity (sender_name_of compiled.rule) s.registrations
     add_rule_answer compiled s.registrations
   row s (RemoveRule c rule) = do
     there ← refuse_unconnected c s
     remove_rule_answer c rule s.registrations
   row s (Attach c attachment) = do
     there ← refuse_unconnected c s
+    within ← entry_within s.capacity s.registrations
     attach_answer s.registrations
   row s (Detach c id) = do
     there ← refuse_unconnected c s
     detach_answer c id s.registrations
   row s (Request c name flags) = do
     there ← refuse_unconnected c s
+    within ← claim_within s.capacity name c flags s.registrations
     request_answer name c flags s.registrations
   row s (Release c name) = do
     there ← refuse_unconnected c s
@@ -79,6 +85,10 @@ module _ {M : Type 0} where
     last_connection = s.last_connection + 1;
   }
 
+  -- from now on there may be as much as this
+  abbrev pub with_capacity : Capacity → State M → State M
+  with_capacity most s = record s { commands = s.commands + 1; capacity = most }
+
   -- the connection is gone, with its entries and its claims
   abbrev pub close_state : ℕ → State M → State M
   close_state c s = record s {
@@ -89,7 +99,8 @@ module _ {M : Type 0} where
 
   -- What an accepted command does.
   abbrev pub effect : State M → Command M → State M
-  effect s (Connect m most) = with_connection m s
+  effect s (Limit most) = with_capacity most s
+  effect s (Connect m) = with_connection m s
   effect s (AddRule c compiled) =
       with_registrations c s (with_sender (sender_name_of compiled.rule) (with_entry c (Rule compiled) s.registrations))
   effect s (RemoveRule c rule) = with_registrations c s (without_entry c (oldest_with c rule s.registrations.entries) s.registrations)
@@ -106,7 +117,7 @@ module _ {M : Type 0} where
 
   -- the command's mailbox, rule or program is shared, which takes memory
   abbrev pub is_sharing : Command M → Bool
-  is_sharing (Connect m most) = true
+  is_sharing (Connect m) = true
   is_sharing (AddRule c compiled) = true
   is_sharing (Attach c attachment) = true
   is_sharing _ = false

@@ -1,7 +1,7 @@
 -- Histories: lists of accepted commands, from the opening state (own).
-use Rattle.std.specs.Prelude.{◌≡◌, ℕ, ◌+◌, Bool, true, List, [], ◌∷◌, fold, ◌==◌, ◌&&◌, if◌then◌else◌}
+use Rattle.std.specs.Prelude.{◌≡◌, ℕ, ◌+◌, Bool, true, false, List, [], ◌∷◌, fold, ◌==◌, ◌&&◌, if◌then◌else◌}
 use Rattle.program_table.specs.declared.command.Command.{Command}
-use Rattle.program_table.specs.declared.command.Command.TheVariants.{Connect, AddRule, RemoveRule, Attach, Detach, Request, Release, DropOne, Close}
+use Rattle.program_table.specs.declared.command.Command.TheVariants.{Limit, Connect, AddRule, RemoveRule, Attach, Detach, Request, Release, DropOne, Close}
 use Rattle.program_table.specs.State.{State, opening}
 use Rattle.program_table.specs.Does.{next_of, is_accepted}
 
@@ -20,7 +20,8 @@ module _ {M : Type 0} where
 
   -- the command names the connection, or is the Connect that makes it
   abbrev pub is_command_of : State M → ℕ → Command M → Bool
-  is_command_of s c (Connect m most) = c == (s.last_connection + 1)
+  is_command_of s c (Limit most) = false
+  is_command_of s c (Connect m) = c == (s.last_connection + 1)
   is_command_of s c (AddRule d compiled) = c == d
   is_command_of s c (RemoveRule d rule) = c == d
   is_command_of s c (Attach d attachment) = c == d

@@ -6,8 +6,9 @@ pub mod Counts
 pub mod SlotNames
 pub mod Registrations
 pub mod OfConnections
-pub mod State
 pub mod Refusals
+pub mod Capacities
+pub mod State
 pub mod Answers
 pub mod Does
 pub mod RuleSlots

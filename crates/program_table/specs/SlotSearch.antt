@@ -9,6 +9,7 @@ use Rattle.program_table.specs.declared.refusal.Refusal.TheVariants.{NamesFull, 
 use Rattle.program_table.specs.SlotNames.{slot_next}
 use Rattle.program_table.specs.Registrations.{Registrations}
 use Rattle.program_table.specs.Refusals.{◌>>=◌, refuse_if}
+use Rattle.program_table.specs.Capacities.{rule_within}
 use Rattle.program_table.specs.Answers.{has_room}
 use Rattle.program_table.specs.State.{State}
 use Rattle.program_table.specs.Does.{refuse_unconnected, max_commands}
@@ -27,7 +28,9 @@ rule_slot rule r = do
 
 module _ {M : Type 0} where
   abbrev pub rule_slot_of : State M → ℕ → RuleTree → Result (Option ℕ) Refusal
-  rule_slot_of s c rule = if nat_le max_commands s.commands then Err refusals.Closed else (refuse_unconnected c s >>= (λ there. rule_slot rule s.registrations))
+  rule_slot_of s c rule =
+      if nat_le max_commands s.commands then Err refusals.Closed
+      else (refuse_unconnected c s >>= (λ there. rule_within s.capacity (sender_name_of rule) s.registrations >>= (λ within. rule_slot rule s.registrations)))
 
 -- the refusal of a claim; a name that was read has no other
 abbrev pub claim_refusal : ClaimError → Refusal

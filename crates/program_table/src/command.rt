@@ -1,17 +1,20 @@
 // What is asked of the bus, and what it answers.
 
+use crate::capacity::Capacity;
 use crate::refusal::Refusal;
 use entry_table::{Attachment, RuleProgram};
 use match_rule::Rule;
 use owners::{Change, Named, WellKnown};
 
-/// A change of the bus that is asked for. All but Connect are of a connection, by its number. A rule comes with its
+/// A change of the bus that is asked for. All but Limit and Connect are of a connection, by its number. A rule comes with its
 /// program, which decides exactly where the rule holds; it and an attached program are shared, so that the state copies
 /// neither.
 #[derive(Drop)]
 pub enum Command<M> {
-    /// A new connection, whose messages go to the mailbox, where fewer than this many are there.
-    Connect(M, u32),
+    /// How much there may be from now on. What is there stays.
+    Limit(Capacity),
+    /// A new connection, whose messages go to the mailbox.
+    Connect(M),
     /// Adds an entry with a rule (AddMatch).
     AddRule(u64, RuleProgram),
     /// Removes the oldest entry with an equal rule (RemoveMatch).

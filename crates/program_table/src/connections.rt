@@ -13,9 +13,6 @@ use std::marker::Model;
 /// How many connections a bus has at most, whatever else it is told.
 pub const MAX_CONNECTIONS: usize = 4096;
 
-/// How many connections a bus has at most that isn't told otherwise.
-pub const STANDARD_CONNECTIONS: u32 = 256;
-
 /// The connections, and the last number that was given.
 #[derive(Drop)]
 pub(crate) struct Connections<M> {

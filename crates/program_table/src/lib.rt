@@ -2,6 +2,7 @@
 //! above use what `answer` and `apply` ensure, which is the table of commands.
 #![tactic(auto)]
 
+mod capacity;
 mod command;
 mod connection;
 mod connections;
@@ -12,9 +13,10 @@ mod registration_table;
 mod removal;
 mod state;
 
+pub use capacity::Capacity;
 pub use command::{Command, Reply};
 pub use connection::Connection;
-pub use connections::{MAX_CONNECTIONS, STANDARD_CONNECTIONS};
+pub use connections::MAX_CONNECTIONS;
 pub use handle::Handle;
 pub use laws::commands_are_counted;
 pub use refusal::Refusal;

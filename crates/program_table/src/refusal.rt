@@ -11,7 +11,7 @@ use std::fmt;
 pub enum Refusal {
     /// There are as many connections as the bus may have.
     ConnectionsFull,
-    /// There are 16,384 entries, or the last id was given.
+    /// There are as many entries as there may be, or the last id was given.
     EntriesFull,
     /// A name needs a slot, and all 1,024 are used.
     NamesFull,

@@ -3,6 +3,7 @@
 ghost use Rattle.std.specs.Prelude.{◌≡◌};
 ghost use Rattle.program_table.specs.SlotSearch.{claim_refusal};
 
+use crate::capacity::Capacity;
 use crate::command::Reply;
 use crate::refusal::Refusal;
 use crate::removal::{self, sender_of};
@@ -38,7 +39,7 @@ impl RegistrationTable {
     ghost use Rattle.message_view.specs.Valid.{Valid};
     ghost use Rattle.match_rule.specs.RuleTree.{sender_name_of};
     ghost use Rattle.summary.specs.Sets.{has_slot, IsSet};
-    ghost use Rattle.owners.specs.Queues.{owner_of, queue_of};
+    ghost use Rattle.owners.specs.Queues.{owner_of, queue_of, after_requesting};
     ghost use Rattle.owners.specs.Registry.{max_names, next_name, least_of};
     ghost use Rattle.rule_compile.specs.Compiled.{IsSlotOf};
     ghost use Rattle.program_table.specs.SlotSearch.{rule_slot};
@@ -50,6 +51,7 @@ impl RegistrationTable {
     ghost use Rattle.program_table.specs.Recipients.{AreOwnedSlots};
     ghost use Rattle.program_table.specs.IsState.{AreRegistrations};
     ghost use Rattle.program_table.specs.Registrations.{no_registrations, with_entry, with_sender, without_entry, with_request, without_claim, without_all_of};
+    ghost use Rattle.program_table.specs.Capacities.{entry_within, rule_within, claim_within, slot_within, is_over};
     ghost use Rattle.program_table.specs.Answers.{has_room, slot_fits, oldest_with, add_rule_answer, remove_rule_answer, attach_answer, detach_answer, request_answer, release_answer, drop_answer};
 
     /// A table without claims and entries. The index of entries hashes texts with this key.
@@ -60,6 +62,63 @@ impl RegistrationTable {
         let entries = EntryTable::new(alloc, key)?;
         let _ = entries.last_id();
         Ok(RegistrationTable { names, entries })
+    }
+
+    /// Whether one entry more is within the capacity.
+    pub(crate) fn entry_within(&self, most: &Capacity) -> Result<(), Refusal>
+        ensures { result ≡ entry_within most.now self.now }
+    {
+        if self.entries.len() >= most.entries as usize {
+            Err(Refusal::EntriesFull)
+        } else {
+            Ok(())
+        }
+    }
+
+    /// Whether a slot for this name is within the capacity.
+    fn slot_within(&self, most: &Capacity, name: &str) -> Result<(), Refusal>
+        ensures { result ≡ slot_within most.now (Some name.now) self.now.slots }
+    {
+        match self.slot_next(name) {
+            Some(slot) if u32::from(slot) < most.names => Ok(()),
+            _ => Err(Refusal::NamesFull),
+        }
+    }
+
+    /// Whether an entry with the rule is within the capacity.
+    pub(crate) fn rule_within(&self, most: &Capacity, rule: &Rule) -> Result<(), Refusal>
+        ensures { result ≡ rule_within most.now (sender_name_of rule.now) self.now }
+    {
+        self.entry_within(most)?;
+        match rule.sender_name() {
+            Some(name) => self.slot_within(most, name),
+            None => Ok(()),
+        }
+    }
+
+    /// Whether a request for a name that has a slot or gets one would make one claim more than there may be.
+    fn is_over(&self, most: &Capacity, name: &WellKnown, connection: u64, flags: u32) -> bool
+        ensures { IfSome (slot_next name.now self.now.slots) (λ _. result ≡ is_over most.now.claims (length self.now.claims) (length (after_requesting name.now connection flags self.now.claims))) }
+    {
+        self.names.len() >= most.claims as usize && self.names.request_adds(name, connection, flags)
+    }
+
+    /// Whether a claim on the name is within the capacity.
+    pub(crate) fn claim_within(
+        &self,
+        most: &Capacity,
+        name: &WellKnown,
+        connection: u64,
+        flags: u32,
+    ) -> Result<(), Refusal>
+        ensures { result ≡ claim_within most.now name.now connection flags self.now }
+    {
+        self.slot_within(most, name.as_str())?;
+        if self.is_over(most, name, connection, flags) {
+            Err(Refusal::QueueFull)
+        } else {
+            Ok(())
+        }
     }
 
     /// Whether there is room for an entry.

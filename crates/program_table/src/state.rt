@@ -1,5 +1,6 @@
 // The state of the bus.
 
+use crate::capacity::Capacity;
 use crate::command::{Command, Reply};
 use crate::connection::Connection;
 use crate::connections::Connections;
@@ -18,6 +19,7 @@ use summary::Slots;
 #[derive(Drop)]
 pub struct BusState<M: Handle> {
     commands: u64,
+    capacity: Capacity,
     connections: Connections<M>,
     registrations: RegistrationTable,
 }
@@ -29,7 +31,7 @@ impl<M: Handle> Model for BusState<M> {
 
     ghost Value = { State M };
 
-    ghost view = { λ s. record { commands = s.commands; connections = s.connections.connections; last_connection = s.connections.last; registrations = s.registrations } };
+    ghost view = { λ s. record { commands = s.commands; capacity = s.capacity; connections = s.connections.connections; last_connection = s.connections.last; registrations = s.registrations } };
 
     ghost invariant = { λ s. AreCounts s.commands s.connections × AreOfConnections s.connections.connections s.registrations };
 }
@@ -54,12 +56,13 @@ impl<M: Handle> BusState<M> {
     ghost use Rattle.program_table.specs.IsState.{IsState};
     ghost use Rattle.rule_compile.specs.Compiled.{IsSlotOf};
 
-    /// A state in which nobody is connected. The index of entries hashes texts with this key.
+    /// A state in which nobody is connected, of the standard capacity. The index of entries hashes texts with this key.
     pub fn new(alloc: Global, key: IndexKey) -> Result<BusState<M>, AllocError>
         ensures { IfOk result (λ state. state ≡ opening) }
     {
         Ok(BusState {
             commands: 0,
+            capacity: Capacity::standard(),
             connections: Connections::new(alloc)?,
             registrations: RegistrationTable::new(alloc, key)?,
         })
@@ -107,9 +110,12 @@ impl<M: Handle> BusState<M> {
         ensures { result ≡ row self.now command.now }
     {
         match command {
-            Command::Connect(_, most) => self.connect_row(*most),
+            Command::Limit(_) => Ok(Reply::Done),
+            Command::Connect(_) => self.connect_row(),
             Command::AddRule(connection, program) => {
                 self.refuse_unconnected(*connection)?;
+                self.registrations
+                    .rule_within(&self.capacity, program.rule())?;
                 self.registrations.add_rule_answer(program)
             }
             Command::RemoveRule(connection, rule) => {
@@ -118,6 +124,7 @@ impl<M: Handle> BusState<M> {
             }
             Command::Attach(connection, _) => {
                 self.refuse_unconnected(*connection)?;
+                self.registrations.entry_within(&self.capacity)?;
                 self.registrations.attach_answer()
             }
             Command::Detach(connection, id) => {
@@ -126,6 +133,8 @@ impl<M: Handle> BusState<M> {
             }
             Command::Request(connection, name, flags) => {
                 self.refuse_unconnected(*connection)?;
+                self.registrations
+                    .claim_within(&self.capacity, name, *connection, *flags)?;
                 self.registrations.request_answer(name, *connection, *flags)
             }
             Command::Release(connection, name) => {
@@ -143,11 +152,11 @@ impl<M: Handle> BusState<M> {
         }
     }
 
-    fn connect_row(&self, most: u32) -> Result<Reply, Refusal>
+    fn connect_row(&self) -> Result<Reply, Refusal>
         requires { self.now.commands < max_commands }
-        ensures { result ≡ connect_row most self.now }
+        ensures { result ≡ connect_row self.now }
     {
-        if self.connections.is_full(most) {
+        if self.connections.is_full(self.capacity.connections) {
             Err(Refusal::ConnectionsFull)
         } else {
             Ok(Reply::Connected(self.connections.last() + 1))
@@ -172,7 +181,12 @@ impl<M: Handle> BusState<M> {
         ensures memory { IfErr result (λ _. is_sharing command.now ≡ true) }
     {
         match command {
-            Command::Connect(mailbox, _) => {
+            Command::Limit(most) => {
+                self.capacity = *most;
+                self.commands += 1;
+                Ok(())
+            }
+            Command::Connect(mailbox) => {
                 let mailbox = mailbox.share()?;
                 self.connections.push(mailbox);
                 self.commands += 1;
@@ -315,6 +329,7 @@ impl<M: Handle> BusState<M> {
             return Err(Refusal::Closed);
         }
         self.refuse_unconnected(connection)?;
+        self.registrations.rule_within(&self.capacity, rule)?;
         self.registrations.rule_slot(rule)
     }
 

@@ -4,7 +4,7 @@ use Rattle.std.specs.Prelude.{Result, Err, is_ok, nat_le, if◌then◌else◌}
 use Rattle.std.proofs.lemmas.Bool.Decides.{nat_tests}
 use Rattle.std.proofs.lemmas.Bool.{and_parts, and_from}
 use Rattle.program_table.specs.declared.command.Command.{Command}
-use Rattle.program_table.specs.declared.command.Command.TheVariants.{Connect, AddRule, RemoveRule, Attach, Detach, Request, Release, DropOne, Close}
+use Rattle.program_table.specs.declared.command.Command.TheVariants.{Limit, Connect, AddRule, RemoveRule, Attach, Detach, Request, Release, DropOne, Close}
 use Rattle.program_table.specs.declared.command.Reply.{Reply}
 use Rattle.program_table.specs.declared.refusal.Refusal.{Refusal}
 use Rattle.program_table.specs.declared.refusal.Refusal.TheVariants.{Closed}
@@ -43,7 +43,8 @@ module _ {M : Type 0} where
   history-push l c h a = accepted-push opening l c h a
 
   effect-commands : (s : State M) (c : Command M) → (effect s c).commands ≡ s.commands + 1
-  effect-commands s (Connect m most) = refl
+  effect-commands s (Limit most) = refl
+  effect-commands s (Connect m) = refl
   effect-commands s (AddRule c compiled) = refl
   effect-commands s (RemoveRule c rule) = refl
   effect-commands s (Attach c attachment) = refl

@@ -9,7 +9,7 @@ use Rattle.owners.specs.Registry.{max_claims, least_of, change_between}
 use Rattle.entry_table.specs.CompiledRule.{CompiledRule}
 use Rattle.entry_table.specs.Entries.{is_attachment}
 use Rattle.program_table.specs.declared.command.Command.{Command}
-use Rattle.program_table.specs.declared.command.Command.TheVariants.{Connect, AddRule, RemoveRule, Attach, Detach, Request, Release, DropOne, Close}
+use Rattle.program_table.specs.declared.command.Command.TheVariants.{Limit, Connect, AddRule, RemoveRule, Attach, Detach, Request, Release, DropOne, Close}
 use Rattle.program_table.specs.declared.command.Reply.{Reply}
 use Rattle.program_table.specs.declared.command.Reply.TheVariants as replies
 use Rattle.program_table.specs.declared.refusal.Refusal.{Refusal}
@@ -19,6 +19,7 @@ use Rattle.program_table.specs.SlotNames.{slot_next}
 use Rattle.program_table.specs.Registrations.{Registrations}
 use Rattle.program_table.specs.Refusals.{◌>>=◌, refuse_if}
 use Rattle.program_table.specs.State.{State}
+use Rattle.program_table.specs.Capacities.{entry_within, rule_within, claim_within}
 use Rattle.program_table.specs.Answers.{oldest_with, has_room, slot_fits, add_rule_answer, remove_rule_answer, attach_answer, detach_answer, request_answer, drop_reply, drop_reply_at, drop_answer}
 use Rattle.program_table.specs.Does.{max_commands, reply_of, refuse_unconnected, row, is_accepted, reply_to}
 
@@ -73,17 +74,26 @@ refused_by (Err refusal) e = (refusal, refl)
 
 module _ {M : Type 0} where
   row_tells : (s : State M) (c : Command M) → Tells (row s c)
-  row_tells s (Connect m most) = tested (refuse_if (are_full most s.connections) refusals.ConnectionsFull) (replies.Connected (s.last_connection + 1)) refl
-  row_tells s (AddRule c compiled) = chained (refuse_unconnected c s) (λ there. add_rule_answer compiled s.registrations) (λ there. add_rule_tells compiled s.registrations)
+  row_tells s (Limit most) = refl
+  row_tells s (Connect m) = tested (refuse_if (are_full s.capacity.connections s.connections) refusals.ConnectionsFull) (replies.Connected (s.last_connection + 1)) refl
+  row_tells s (AddRule c compiled) =
+      let within = rule_within s.capacity (sender_name_of compiled.rule) s.registrations in
+      chained (refuse_unconnected c s) (λ there. within >>= λ done. add_rule_answer compiled s.registrations)
+      (λ there. chained within (λ done. add_rule_answer compiled s.registrations) (λ done. add_rule_tells compiled s.registrations))
   row_tells s (RemoveRule c rule) =
       let found = refuse_if (is_none (oldest_with c rule s.registrations.entries)) refusals.RuleNotFound in
       chained (refuse_unconnected c s) (λ there. remove_rule_answer c rule s.registrations) (λ there. tested found replies.Done refl)
   row_tells s (Attach c attachment) =
-      chained (refuse_unconnected c s) (λ there. attach_answer s.registrations) (λ there. tested (has_room s.registrations) (replies.Entry (s.registrations.last_entry + 1)) refl)
+      let within = entry_within s.capacity s.registrations in
+      chained (refuse_unconnected c s) (λ there. within >>= λ done. attach_answer s.registrations)
+      (λ there. chained within (λ done. attach_answer s.registrations) (λ done. tested (has_room s.registrations) (replies.Entry (s.registrations.last_entry + 1)) refl))
   row_tells s (Detach c id) =
       let found = refuse_if (not (list_any (is_attachment c id) s.registrations.entries)) refusals.NoAttachment in
       chained (refuse_unconnected c s) (λ there. detach_answer c id s.registrations) (λ there. tested found replies.Done refl)
-  row_tells s (Request c name flags) = chained (refuse_unconnected c s) (λ there. request_answer name c flags s.registrations) (λ there. request_tells name c flags s.registrations)
+  row_tells s (Request c name flags) =
+      let within = claim_within s.capacity name c flags s.registrations in
+      chained (refuse_unconnected c s) (λ there. within >>= λ done. request_answer name c flags s.registrations)
+      (λ there. chained within (λ done. request_answer name c flags s.registrations) (λ done. request_tells name c flags s.registrations))
   row_tells s (Release c name) = tested (refuse_unconnected c s) _ refl
   row_tells s (DropOne c) = tested (refuse_unconnected c s) (drop_answer c s.registrations) (dropped_at (least_of c s.registrations.claims) c s.registrations.claims)
   row_tells s (Close c) = tested (refuse_unconnected c s) replies.Done refl
