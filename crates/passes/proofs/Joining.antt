@@ -39,20 +39,20 @@ two_replies false false n = inl refl
 
 module _ {M : Type 0} where
   -- a Connect is answered the next number, or a refusal
-  connect_reply : (s : State M) (m : M) (most : ℕ) → (reply_to s (Connect m most) ≡ Connected (s.last_connection + 1)) ⊎ ((refusal : Refusal) × (reply_to s (Connect m most) ≡ Refused refusal))
-  connect_reply s m most = two_replies (nat_le max_commands s.commands) (are_full most s.connections) (s.last_connection + 1)
+  connect_reply : (s : State M) (m : M) → (reply_to s (Connect m) ≡ Connected (s.last_connection + 1)) ⊎ ((refusal : Refusal) × (reply_to s (Connect m) ≡ Refused refusal))
+  connect_reply s m = two_replies (nat_le max_commands s.commands) (are_full s.capacity.connections s.connections) (s.last_connection + 1)
 
-  pub next_number : (s : State M) (m : M) (most : ℕ) (n : ℕ) → reply_to s (Connect m most) ≡ Connected n → n ≡ s.last_connection + 1
-  next_number s m most n e =
-      ⊎_elim (λ (h : reply_to s (Connect m most) ≡ Connected (s.last_connection + 1)). let f : Connected n ≡ Connected (s.last_connection + 1) = sym e ∙ h in cc)
-      (λ (h : (refusal : Refusal) × (reply_to s (Connect m most) ≡ Refused refusal)). let f : Connected n ≡ Refused h.0 = sym e ∙ h.1 in cc)
-      (connect_reply s m most)
+  pub next_number : (s : State M) (m : M) (n : ℕ) → reply_to s (Connect m) ≡ Connected n → n ≡ s.last_connection + 1
+  next_number s m n e =
+      ⊎_elim (λ (h : reply_to s (Connect m) ≡ Connected (s.last_connection + 1)). let f : Connected n ≡ Connected (s.last_connection + 1) = sym e ∙ h in cc)
+      (λ (h : (refusal : Refusal) × (reply_to s (Connect m) ≡ Refused refusal)). let f : Connected n ≡ Refused h.0 = sym e ∙ h.1 in cc)
+      (connect_reply s m)
 
-  pub no_other : (s : State M) (m : M) (most : ℕ) → ((n : ℕ) → reply_to s (Connect m most) ≡ Connected n → ⊥) → ((refusal : Refusal) → reply_to s (Connect m most) ≡ Refused refusal → ⊥) → ⊥
-  no_other s m most a b =
-      ⊎_elim (λ (h : reply_to s (Connect m most) ≡ Connected (s.last_connection + 1)). a (s.last_connection + 1) h)
-      (λ (h : (refusal : Refusal) × (reply_to s (Connect m most) ≡ Refused refusal)). b h.0 h.1)
-      (connect_reply s m most)
+  pub no_other : (s : State M) (m : M) → ((n : ℕ) → reply_to s (Connect m) ≡ Connected n → ⊥) → ((refusal : Refusal) → reply_to s (Connect m) ≡ Refused refusal → ⊥) → ⊥
+  no_other s m a b =
+      ⊎_elim (λ (h : reply_to s (Connect m) ≡ Connected (s.last_connection + 1)). a (s.last_connection + 1) h)
+      (λ (h : (refusal : Refusal) × (reply_to s (Connect m) ≡ Refused refusal)). b h.0 h.1)
+      (connect_reply s m)
 
   -- a pass without a connection, after a history that is published
   pub record IsFresh (v : PassState M) (before : Publication M) (connection : ℕ) : Type 0 where
@@ -65,27 +65,27 @@ module _ {M : Type 0} where
   none_taken v before connection h = h.taken.none (sym h.at ∙ h.none)
 
   -- a refused Connect
-  pub turned_away : (v w : PassState M) (told_history : List (Command M)) (before next : Publication M) (m : M) (most : ℕ) (refusal : Refusal) (error : BusError)
-      → IsTold v w told_history before → reply_to (after before.history) (Connect m most) ≡ Refused refusal → next.history ≡ with_next before.history (Connect m most)
-      → error ≡ error_of refusal → IsRefused v before (Connect m most) error w next
-  turned_away v w told_history before next m most refusal error t said more is =
+  pub turned_away : (v w : PassState M) (told_history : List (Command M)) (before next : Publication M) (m : M) (refusal : Refusal) (error : BusError)
+      → IsTold v w told_history before → reply_to (after before.history) (Connect m) ≡ Refused refusal → next.history ≡ with_next before.history (Connect m)
+      → error ≡ error_of refusal → IsRefused v before (Connect m) error w next
+  turned_away v w told_history before next m refusal error t said more is =
       let l = before.history in
-      let off : is_accepted (after l) (Connect m most) ≡ false = refused (after l) (Connect m most) refusal said in
+      let off : is_accepted (after l) (Connect m) ≡ false = refused (after l) (Connect m) refusal said in
       record {
         begins = begins_all v w told_history before t;
         refusal = refusal;
         replies = said;
         error_is = is;
-        published = more ∙ ap (λ (b : Bool). if b then l ++ Connect m most ∷ [] else l) off;
+        published = more ∙ ap (λ (b : Bool). if b then l ++ Connect m ∷ [] else l) off;
         seen = t.same ∙ ap (λ (k : List (Command M)). let p : PassState M = record v { seen = k } in p) t.told_is;
       }
 
   -- the next number is that of the Connect alone
-  pub its_own : (before : Publication M) (m : M) (most : ℕ) (n : ℕ) → reply_to (after before.history) (Connect m most) ≡ Connected n → is_command_of (after before.history) n (Connect m most) ≡ true
-  its_own before m most n said = same_number n ((after before.history).last_connection + 1) (next_number (after before.history) m most n said)
+  pub its_own : (before : Publication M) (m : M) (n : ℕ) → reply_to (after before.history) (Connect m) ≡ Connected n → is_command_of (after before.history) n (Connect m) ≡ true
+  its_own before m n said = same_number n ((after before.history).last_connection + 1) (next_number (after before.history) m n said)
 
-  none_own : (before : Publication M) (m : M) (most : ℕ) (n : ℕ) → IsHistory before.history → reply_to (after before.history) (Connect m most) ≡ Connected n → own_commands n before.history ≡ []
-  none_own before m most n legal said = let e = next_number (after before.history) m most n said in own_commands_new before.history n legal (omega (arith, e))
+  none_own : (before : Publication M) (m : M) (n : ℕ) → IsHistory before.history → reply_to (after before.history) (Connect m) ≡ Connected n → own_commands n before.history ≡ []
+  none_own before m n legal said = let e = next_number (after before.history) m n said in own_commands_new before.history n legal (omega (arith, e))
 
   pub room_for_one : (v w : PassState M) (told_history : List (Command M)) (before : Publication M) (connection : ℕ) → IsTold v w told_history before → IsFresh v before connection → w.took + 1 < 2 ^ 64
   room_for_one v w told_history before connection t h =
@@ -93,25 +93,25 @@ module _ {M : Type 0} where
       let k : w.took ≡ v.took = ap (λ (p : PassState M). p.took) t.same in
       omega (arith, z, k)
 
-  pub first_own : (v w : PassState M) (told_history front : List (Command M)) (before next : Publication M) (connection n : ℕ) (m : M) (most : ℕ) → IsTold v w told_history before → IsFresh v before connection
-      → reply_to (after before.history) (Connect m most) ≡ Connected n → next.history ≡ before.history ++ Connect m most ∷ [] → front ≡ next.history → w.took + 1 ≤ length (own_commands n front)
-  first_own v w told_history front before next connection n m most t h said more is =
+  pub first_own : (v w : PassState M) (told_history front : List (Command M)) (before next : Publication M) (connection n : ℕ) (m : M) → IsTold v w told_history before → IsFresh v before connection
+      → reply_to (after before.history) (Connect m) ≡ Connected n → next.history ≡ before.history ++ Connect m ∷ [] → front ≡ next.history → w.took + 1 ≤ length (own_commands n front)
+  first_own v w told_history front before next connection n m t h said more is =
       let l = before.history in
       let z = none_taken v before connection h in
       let k : w.took ≡ v.took = ap (λ (p : PassState M). p.took) t.same in
-      let e : own_commands n front ≡ own_commands n l ++ Connect m most ∷ [] = ap (own_commands n) (is ∙ more) ∙ own-push l n (Connect m most) (its_own before m most n said) in
-      omega (arith, z, k, ap length e, length-append (own_commands n l) (Connect m most ∷ []))
+      let e : own_commands n front ≡ own_commands n l ++ Connect m ∷ [] = ap (own_commands n) (is ∙ more) ∙ own-push l n (Connect m) (its_own before m n said) in
+      omega (arith, z, k, ap length e, length-append (own_commands n l) (Connect m ∷ []))
 
-  pub joined : (v w x : PassState M) (told_history front : List (Command M)) (before next : Publication M) (connection n : ℕ) (m : M) (most : ℕ) (reply : Reply) → IsTold v w told_history before
-      → IsFresh v before connection → is_accepted (after before.history) (Connect m most) ≡ true → reply ≡ reply_to (after before.history) (Connect m most) → reply ≡ Connected n
-      → next.history ≡ before.history ++ Connect m most ∷ [] → front ≡ next.history → x ≡ record w { seen = front; connection = n; took = w.took + 1 } → IsDone v before (Connect m most) reply x next
-  joined v w x told_history front before next connection n m most reply t h on said number more is to =
+  pub joined : (v w x : PassState M) (told_history front : List (Command M)) (before next : Publication M) (connection n : ℕ) (m : M) (reply : Reply) → IsTold v w told_history before
+      → IsFresh v before connection → is_accepted (after before.history) (Connect m) ≡ true → reply ≡ reply_to (after before.history) (Connect m) → reply ≡ Connected n
+      → next.history ≡ before.history ++ Connect m ∷ [] → front ≡ next.history → x ≡ record w { seen = front; connection = n; took = w.took + 1 } → IsDone v before (Connect m) reply x next
+  joined v w x told_history front before next connection n m reply t h on said number more is to =
       let l = before.history in
       let z = none_taken v before connection h in
-      let named : reply_to (after l) (Connect m most) ≡ Connected n = sym said ∙ number in
+      let named : reply_to (after l) (Connect m) ≡ Connected n = sym said ∙ number in
       let at : x.connection ≡ n = ap (λ (p : PassState M). p.connection) to in
-      let count : length (own_commands x.connection l) ≡ v.took = ap (λ (c : ℕ). length (own_commands c l)) at ∙ ap length (none_own before m most n h.legal named) ∙ sym z in
+      let count : length (own_commands x.connection l) ≡ v.took = ap (λ (c : ℕ). length (own_commands c l)) at ∙ ap length (none_own before m n h.legal named) ∙ sym z in
       let low : v.took ≤ length (own_commands x.connection v.seen) = omega (arith, z) in
-      let own : is_command_of (after l) x.connection (Connect m most) ≡ true = subst (λ (c : ℕ). is_command_of (after l) c (Connect m most) ≡ true) (sym at) (its_own before m most n named) in
+      let own : is_command_of (after l) x.connection (Connect m) ≡ true = subst (λ (c : ℕ). is_command_of (after l) c (Connect m) ≡ true) (sym at) (its_own before m n named) in
       let k : x.took ≡ v.took + 1 = ap (λ (p : PassState M). p.took) to ∙ ap (λ (p : PassState M). p.took + 1) t.same in
-      done v before (Connect m most) reply x next (begins_all v w told_history before t) on said low count own more (ap (λ (p : PassState M). p.seen) to ∙ is) k
+      done v before (Connect m) reply x next (begins_all v w told_history before t) on said low count own more (ap (λ (p : PassState M). p.seen) to ∙ is) k

@@ -1,8 +1,9 @@
 -- What the calls of a pass do, under the lock of the bus (own).
 use Rattle.std.specs.Prelude.{◌≡◌, ◌≢◌, ◌⊎◌, ◌+◌, ◌<◌, ℕ, Bool, true, false, [], ◌∷◌, ◌++◌, length, Result, Ok, Err}
 use mathlib.Core.List.{IsPrefix}
+use Rattle.program_table.specs.declared.capacity.Capacity.{Capacity}
 use Rattle.program_table.specs.declared.command.Command.{Command}
-use Rattle.program_table.specs.declared.command.Command.TheVariants.{Connect, DropOne}
+use Rattle.program_table.specs.declared.command.Command.TheVariants.{Limit, Connect, DropOne}
 use Rattle.program_table.specs.declared.command.Reply.{Reply}
 use Rattle.program_table.specs.declared.command.Reply.TheVariants.{Connected, Nothing, Refused}
 use Rattle.program_table.specs.declared.refusal.Refusal.{Refusal}
@@ -79,6 +80,11 @@ module _ {M : Type 0} where
   Answers closes v before command (Ok reply) w next = IsDone v before command reply w next × (w.connection ≡ v.connection) × (w.is_closed ≡ closes)
   Answers closes v before command (Err error) w next = (IsRefused v before command error w next × KeepsOwn v w) ⊎ IsClosed v before error w next
 
+  -- how much there may be is told by the next command, or nothing changes
+  abbrev pub Limits : Capacity → Publication M → Result (Unit {0}) BusError → Publication M → Type 0
+  Limits most before (Ok _) next = next.history ≡ before.history ++ Limit most ∷ []
+  Limits most before (Err error) next = (next.history ≡ before.history) × ((error ≡ errors.NoMemory) ⊎ (error ≡ errors.Closed))
+
   -- why a Connect is Closed, whatever the state says
   pub data IsPast (v : PassState M) (before next : Publication M) : Type 0 where
     -- the pass was connected already
@@ -90,8 +96,8 @@ module _ {M : Type 0} where
     -- fewer commands are published than it has seen
     fewer : length before.history < length v.seen → IsPast v before next
 
-  -- the call that makes the pass's connection, where fewer than this many are there
-  abbrev pub Connects : PassState M → Publication M → M → ℕ → Result Reply BusError → PassState M → Publication M → Type 0
-  Connects v before mailbox most (Ok reply) w next = IsDone v before (Connect mailbox most) reply w next × (reply ≡ Connected w.connection) × (w.is_closed ≡ false)
-  Connects v before mailbox most (Err error) w next =
-      IsRefused v before (Connect mailbox most) error w next ⊎ (IsStopped v before w next × (((error ≡ errors.Closed) × IsPast v before next) ⊎ (error ≡ errors.NoMemory)))
+  -- the call that makes the pass's connection
+  abbrev pub Connects : PassState M → Publication M → M → Result Reply BusError → PassState M → Publication M → Type 0
+  Connects v before mailbox (Ok reply) w next = IsDone v before (Connect mailbox) reply w next × (reply ≡ Connected w.connection) × (w.is_closed ≡ false)
+  Connects v before mailbox (Err error) w next =
+      IsRefused v before (Connect mailbox) error w next ⊎ (IsStopped v before w next × (((error ≡ errors.Closed) × IsPast v before next) ⊎ (error ≡ errors.NoMemory)))

@@ -6,7 +6,7 @@ ghost use Rattle.program_table.specs.State.{State};
 ghost use Rattle.program_table.specs.History.{after, is_command_of, IsHistory};
 ghost use Rattle.published.specs.Publication.{Publication, nothing_published};
 ghost use Rattle.passes.specs.Passes.{PassState, new_pass};
-ghost use Rattle.passes.specs.Calls.{Answers, ClaimsNothing, Connects};
+ghost use Rattle.passes.specs.Calls.{Answers, ClaimsNothing, Connects, Limits};
 ghost use Rattle.passes.specs.Readiness.{Admits, IsReady};
 
 use crate::error::BusError;
@@ -15,7 +15,7 @@ use crossbeam_utils::rule::Protocol;
 use entry_table::IndexKey;
 use left_right::Absorb;
 use logbook::Rule;
-use program_table::{BusState, Command, Reply};
+use program_table::{BusState, Capacity, Command, Reply};
 use published::{
     Entry, Front, Law, Naming, Opened, PublishError, Published, Publisher, Shown, StateReader,
 };
@@ -185,15 +185,24 @@ impl<J: Naming, M: Mailbox, R: Wait + Drop> Control<J, M, R> {
         self.publish(pass, command)
     }
 
-    /// Makes the connection of a pass that has none yet, whose messages go to the mailbox, where fewer than this many
-    /// are there.
-    pub fn connect(
-        &mut self,
-        pass: &mut Pass<J, M>,
-        mailbox: M,
-        most: u32,
-    ) -> Result<Reply, BusError>
-        ensures { Connects pass.old self.old mailbox most result pass.new self.new }
+    /// Tells how much there may be on the bus from now on. What is there stays.
+    ///
+    /// # Errors
+    ///
+    /// `NoMemory`, and `Closed` where the bus has ended, or as many commands were accepted as can be counted.
+    pub fn limit(&mut self, most: Capacity) -> Result<(), BusError>
+        ensures { Limits most self.old result self.new }
+    {
+        match self.publisher.value.publish(Command::Limit(most)) {
+            Ok(Reply::Refused(_)) | Err(PublishError::Ended) => Err(BusError::Closed),
+            Ok(_) => Ok(()),
+            Err(PublishError::NoMemory) => Err(BusError::NoMemory),
+        }
+    }
+
+    /// Makes the connection of a pass that has none yet, whose messages go to the mailbox.
+    pub fn connect(&mut self, pass: &mut Pass<J, M>, mailbox: M) -> Result<Reply, BusError>
+        ensures { Connects pass.old self.old mailbox result pass.new self.new }
     {
         let connection = pass.connection();
         let _took = pass.took();
@@ -202,11 +211,7 @@ impl<J: Naming, M: Mailbox, R: Wait + Drop> Control<J, M, R> {
         }
         self.tell(pass)?;
         let _commands = self.state().commands();
-        let reply = match self
-            .publisher
-            .value
-            .publish(Command::Connect(mailbox, most))
-        {
+        let reply = match self.publisher.value.publish(Command::Connect(mailbox)) {
             Ok(reply) => reply,
             Err(PublishError::NoMemory) => return Err(BusError::NoMemory),
             Err(PublishError::Ended) => return Err(BusError::Closed),

@@ -32,6 +32,6 @@ pub use unicasts::Sent;
 // Passed on from the crates below, so that the crates above need not name those in crates.txt.
 pub use entry_table::IndexKey;
 pub use fan_out::MAX_RECIPIENTS;
-pub use program_table::{Command, Refusal, Reply, STANDARD_CONNECTIONS};
+pub use program_table::{Capacity, Command, Refusal, Reply};
 pub use published::{Front, Naming, Opened, Published, Shown, StateReader};
 pub use routing::Mailbox;

@@ -1,5 +1,5 @@
 -- How a client joins the bus, and what Hello is answered (D-Bus Specification, "Message Bus Messages": Hello).
-use Rattle.std.specs.Prelude.{◌≡◌, ◌⊎◌, ℕ, Result, Ok, Err}
+use Rattle.std.specs.Prelude.{◌≡◌, ◌⊎◌, Result, Ok, Err}
 use Rattle.std.specs.Result.{result_and}
 use Rattle.outbox.specs.Seated.{OutboxId}
 use Rattle.bus_messages.specs.declared.error_name.ErrorName.TheVariants.{NoMemory}
@@ -19,11 +19,11 @@ use Rattle.peers.specs.Refusals.{refusal_of}
 
 module _ {M : Type 0} where
   -- The pass is connected: the published history gains just its Connect, for a handle of the client's mailbox. Or the bus
-  -- refuses, as where this many are connected, or memory for the handle was refused; then nothing is published.
-  abbrev pub Joins : ℕ → PassState M → Publication M → Result (Unit {0}) Refused → PassState M → Publication M → Type 0
-  Joins most v before (Ok _) w next = (mailbox : M) × (reply : Reply) × Connects v before mailbox most (Ok reply) w next
-  Joins most v before (Err why) w next =
-      ((why ≡ Error NoMemory) × (w ≡ v) × (next ≡ before)) ⊎ ((mailbox : M) × (error : BusError) × Connects v before mailbox most (Err error) w next × (why ≡ refusal_of error))
+  -- refuses, as where no more may be connected, or memory for the handle was refused; then nothing is published.
+  abbrev pub Joins : PassState M → Publication M → Result (Unit {0}) Refused → PassState M → Publication M → Type 0
+  Joins v before (Ok _) w next = (mailbox : M) × (reply : Reply) × Connects v before mailbox (Ok reply) w next
+  Joins v before (Err why) w next =
+      ((why ≡ Error NoMemory) × (w ≡ v) × (next ≡ before)) ⊎ ((mailbox : M) × (error : BusError) × Connects v before mailbox (Err error) w next × (why ≡ refusal_of error))
 
   -- The call is answered with the client's name, and then the name is announced. The result is the first error of these.
   abbrev pub Registers : (M → OutboxId) → Request → PeerState M → Result (Unit {0}) AnswerError → PeerState M → Type 0

@@ -17,7 +17,7 @@ use outbox::Item;
 use router::{Control, Mailbox, Naming, Pass, RouteLists};
 use std::sync::Wait;
 
-/// Connects a pass, whose messages go to the client's outbox, under the bus's lock, where fewer than this many are connected.
+/// Connects a pass, whose messages go to the client's outbox, under the bus's lock.
 ///
 /// # Errors
 ///
@@ -26,12 +26,11 @@ pub fn join<B: Naming, M: Mailbox, R: Wait + Drop>(
     control: &mut Control<B, M, R>,
     pass: &mut Pass<B, M>,
     own: &OwnOutbox<M>,
-    most: u32,
 ) -> Result<(), Refused>
-    ensures { Joins most pass.old control.old result pass.new control.new }
+    ensures { Joins pass.old control.old result pass.new control.new }
 {
     let mailbox = own.share()?;
-    match control.connect(pass, mailbox, most) {
+    match control.connect(pass, mailbox) {
         Ok(_) => Ok(()),
         Err(error) => Err(Refused::from(error)),
     }

@@ -1,11 +1,8 @@
 // How much of the bus one client may have.
 
 ghost use Rattle.std.specs.Prelude.{◌≡◌};
-ghost use Rattle.router.specs.Connections.{standard_connections};
 
-use router::STANDARD_CONNECTIONS;
-
-/// How much of the bus one client may have at once, and with how many others. A call that asks for more is answered with
+/// How much of the bus one client may have at once. A call that asks for more is answered with
 /// LimitsExceeded, before the bus is asked; what the bus itself has room for is another matter.
 #[derive(Clone, Copy, Debug, PartialEq, Eq)]
 pub struct Shares {
@@ -18,36 +15,31 @@ pub struct Shares {
     pub names: u32,
     /// Calls of other connections that wait for their replies.
     pub calls: u32,
-    /// Connections of the bus, its own counted, of which there are at most 4,096 whatever is told here: Hello is answered where
-    /// fewer are there.
-    pub connections: u32,
 }
 
 impl Shares {
-    /// More than a bus has, on one of 256 connections: only the bus itself refuses.
+    /// More than a bus has: only the bus itself refuses.
     pub fn unlimited() -> Shares
-        ensures { result ≡ record { entries = 4294967295; instructions = 4294967295; names = 4294967295; calls = 4294967295; connections = standard_connections } }
+        ensures { result ≡ record { entries = 4294967295; instructions = 4294967295; names = 4294967295; calls = 4294967295 } }
     {
         Shares {
             entries: u32::MAX,
             instructions: u32::MAX,
             names: u32::MAX,
             calls: u32::MAX,
-            connections: STANDARD_CONNECTIONS,
         }
     }
 
     /// What a client of `dbusfan serve` may have: 512 rules and programs, 65,536 instructions, 512 names, and 1,024
-    /// calls that wait, on a bus of 256 connections.
+    /// calls that wait.
     pub fn standard() -> Shares
-        ensures { result ≡ record { entries = 512; instructions = 65536; names = 512; calls = 1024; connections = standard_connections } }
+        ensures { result ≡ record { entries = 512; instructions = 65536; names = 512; calls = 1024 } }
     {
         Shares {
             entries: 512,
             instructions: 65_536,
             names: 512,
             calls: 1_024,
-            connections: STANDARD_CONNECTIONS,
         }
     }
 }

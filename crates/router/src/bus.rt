@@ -2,7 +2,6 @@
 
 ghost use Rattle.std.specs.Prelude.{◌≡◌, ◌⊎◌, ◌<◌, ◌^◌, MatchResult, IfErr, IfSome, false, true, length};
 ghost use mathlib.Core.List.{IsPrefix};
-ghost use Rattle.passes.specs.Connections.{standard_connections};
 ghost use Rattle.passes.specs.Command.TheVariants.{Detach, Request, Release, DropOne, Close};
 ghost use Rattle.passes.specs.Publication.{Publication};
 ghost use Rattle.passes.specs.Passes.{PassState, new_pass};
@@ -15,8 +14,8 @@ use open_calls::{OpenCall, OpenCalls, Shards};
 use outbox::Tally;
 use owners::WellKnown;
 use passes::{
-    BusError, Control, Front, IndexKey, KeptPasses, Mailbox, Naming, Opened, Pass, Reply,
-    STANDARD_CONNECTIONS, StateReader,
+    BusError, Capacity, Control, Front, IndexKey, KeptPasses, Mailbox, Naming, Opened, Pass, Reply,
+    StateReader,
 };
 use std::alloc::Global;
 use std::sync::{Mutex, MutexGuard, Wait};
@@ -41,7 +40,7 @@ pub struct Bus<B: Naming, M: Mailbox, R: Wait + Drop> {
 }
 
 impl<B: Naming, M: Mailbox, R: Wait + Drop> Bus<B, M, R> {
-    /// A bus to which nobody is connected. The key is that of its index of entries.
+    /// A bus of the standard capacity, to which nobody is connected. The key is that of its index of entries.
     pub fn new(
         rt: R,
         alloc: Global,
@@ -51,18 +50,19 @@ impl<B: Naming, M: Mailbox, R: Wait + Drop> Bus<B, M, R> {
         requires { opened ≡ B.book }
         ensures { IfErr result (λ error. error ≡ BusError.NoMemory) }
     {
-        Bus::with_readers(rt, alloc, key, opened, READERS)
+        Bus::with_capacity(rt, alloc, key, opened, READERS, Capacity::standard())
     }
 
-    /// The same with places for this many readers: one for each pass that has its own, and for each that is lent. Each command
+    /// The same where there may be this much, with places for this many readers: one for each pass that has its own, and for each that is lent. Each command
     /// costs a look at all of them, so a bus of many passes is quicker where each thread lends its one reader to the passes
     /// that it serves.
-    pub fn with_readers(
+    pub fn with_capacity(
         rt: R,
         alloc: Global,
         key: IndexKey,
         opened: Opened<M>,
         readers: usize,
+        capacity: Capacity,
     ) -> Result<Bus<B, M, R>, BusError>
         requires name { opened ≡ B.book }
         requires readers { (0 < readers) × (readers < 2 ^ 32) }
@@ -72,14 +72,20 @@ impl<B: Naming, M: Mailbox, R: Wait + Drop> Bus<B, M, R> {
             return Err(BusError::NoMemory);
         };
         match Control::new(rt, alloc, key, opened, readers) {
-            Ok(control) => Ok(Bus {
-                control: Mutex::new(control),
-                kept: Mutex::new(kept),
-                turns: Mutex::new(()),
-                calls: Shards::new(alloc),
-                monitors: Monitors::new(alloc),
-                gone: Tally::new(),
-            }),
+            Ok(mut control) => {
+                // A bus for which memory is refused here has ended, and answers each call with Closed.
+                if capacity != Capacity::standard() {
+                    let _ = control.limit(capacity);
+                }
+                Ok(Bus {
+                    control: Mutex::new(control),
+                    kept: Mutex::new(kept),
+                    turns: Mutex::new(()),
+                    calls: Shards::new(alloc),
+                    monitors: Monitors::new(alloc),
+                    gone: Tally::new(),
+                })
+            }
             Err(_) => Err(BusError::NoMemory),
         }
     }
@@ -174,18 +180,16 @@ impl<B: Naming, M: Mailbox, R: Wait + Drop> Bus<B, M, R> {
         self.control(rt).tell(pass)
     }
 
-    /// Makes the connection of a pass that has none yet, whose messages go to the mailbox, where fewer than 256 are
-    /// there: by the lock's guard another number is told.
+    /// Makes the connection of a pass that has none yet, whose messages go to the mailbox.
     pub fn connect(
         &self,
         rt: &impl Wait,
         pass: &mut Pass<B, M>,
         mailbox: M,
     ) -> Result<Reply, BusError>
-        ensures { Once (λ before next. Connects pass.old before mailbox standard_connections result pass.new next) }
+        ensures { Once (λ before next. Connects pass.old before mailbox result pass.new next) }
     {
-        self.control(rt)
-            .connect(pass, mailbox, STANDARD_CONNECTIONS)
+        self.control(rt).connect(pass, mailbox)
     }
 
     /// Adds an entry with a rule (AddMatch).

@@ -18,6 +18,6 @@ pub use passes::{BusError, Control, Pass, RouteLists, Sent, Source};
 
 // Passed on from the crates below, so that the crates above need not name those in crates.txt.
 pub use passes::{
-    Command, IndexKey, Mailbox, Naming, Opened, Published, Refusal, Reply, STANDARD_CONNECTIONS,
-    Shown, StateReader,
+    Capacity, Command, IndexKey, Mailbox, Naming, Opened, Published, Refusal, Reply, Shown,
+    StateReader,
 };

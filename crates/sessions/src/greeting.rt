@@ -31,7 +31,7 @@ pub(crate) fn greet<B: Naming, M: Mailbox, W: Wait, R: Wait + Drop>(
     identity: Identity,
     view: &View<'_>,
 ) -> Result<Peer<B, M>, (SessionError, OwnOutbox<M>)>
-    ensures peer { IfOk result (λ peer. IsNewcomer context.now.shares.connections peer) }
+    ensures peer { IfOk result (λ peer. IsNewcomer peer) }
     ensures hello { IfOk result (λ _. (m : Message) → Valid view.now m → is_hello m ≡ true) }
 {
     if !is_hello(view) {
@@ -81,12 +81,11 @@ fn connect_pass<B: Naming, M: Mailbox, W: Wait, R: Wait + Drop>(
     own: &OwnOutbox<M>,
     view: &View<'_>,
 ) -> Result<Pass<B, M>, Refused>
-    ensures { IfOk result (λ pass. HasJoined context.now.shares.connections pass) }
+    ensures { IfOk result (λ pass. HasJoined pass) }
 {
     let _ = Call::read(context.alloc, view)?;
     let mut pass = new_pass(context, lent)?;
-    let most = context.shares.connections;
-    let joined = join(&mut context.bus.control(context.rt), &mut pass, own, most);
+    let joined = join(&mut context.bus.control(context.rt), &mut pass, own);
     match joined {
         Ok(()) => Ok(pass),
         Err(refused) => {

@@ -5,5 +5,5 @@ use Rattle.sessions.proofs.greeting.greet.Goals as goal
 
 pub returns-in-Ok-clause-peer : goal.returns-in-Ok-clause-peer
 returns-in-Ok-clause-peer g c =
-    let P : PeerState g.row.M.Denot → Type 0 = λ v. IsNewcomer c.args.context.now.shares.connections v in
+    let P : PeerState g.row.M.Denot → Type 0 = λ v. IsNewcomer v in
     subst P (sym c.new.ensures) (c.in-Ok.ensures, refl, refl)

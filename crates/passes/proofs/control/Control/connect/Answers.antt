@@ -16,7 +16,7 @@ count_in-requires g c =
     let v = c.args.pass.now in
     let b = c.args.self.now in
     let l = b.history in
-    let x = Connect c.args.mailbox c.args.most in
+    let x = Connect c.args.mailbox in
     let n = c.in-Connected.number in
     let told_history : IsTold v c.tell.new.pass c.in_ok-tell.field-0 b = record { told_is = c.in_ok-tell.ensures.0; begins = c.in_ok-tell.ensures.1; same = c.in_ok-tell.ensures.2 } in
     let fresh : IsFresh v b c.connection-connection.result = record { legal = c.state.ensures.history; taken = c.took-took.ensures.own; at = c.connection-connection.ensures; none = c.if-connection-ne0.false } in
@@ -25,13 +25,13 @@ count_in-requires g c =
     let more : c.publish.new.self.history ≡ l ++ x ∷ [] =
     c.in-Ok.ensures.history ∙ ap (λ (p : Publication g.row.M.Denot). with_next p.history x) c.self.view_is ∙ ap (λ (a : Bool). if a then l ++ x ∷ [] else l) on in
     let named : reply_to (after l) x ≡ Connected n = sym said ∙ c.in-Connected.is in
-    let next = next_number (after l) c.args.mailbox c.args.most n named in
+    let next = next_number (after l) c.args.mailbox n named in
     record {
       begins = (x ∷ [], ap (λ k. k ++ x ∷ []) (seen_all v c.tell.new.pass c.in_ok-tell.field-0 b told_history) ∙ sym more ∙ sym c.front.ensures);
       room = room_for_one v c.tell.new.pass c.in_ok-tell.field-0 b c.connection-connection.result told_history fresh;
       number = λ z. not_none (after l).last_connection n next z;
       same = inl (ap (λ (p : PassState g.row.M.Denot). p.connection) c.in_ok-tell.ensures.2 ∙ sym c.connection-connection.ensures ∙ c.if-connection-ne0.false);
-      own = first_own v c.tell.new.pass c.in_ok-tell.field-0 c.front.result b c.publish.new.self c.connection-connection.result n c.args.mailbox c.args.most told_history fresh named more c.front.ensures;
+      own = first_own v c.tell.new.pass c.in_ok-tell.field-0 c.front.result b c.publish.new.self c.connection-connection.result n c.args.mailbox told_history fresh named more c.front.ensures;
     }
 
 pub returns : goal.returns
@@ -39,7 +39,7 @@ returns g c =
     let v = c.args.pass.now in
     let b = c.args.self.now in
     let l = b.history in
-    let x = Connect c.args.mailbox c.args.most in
+    let x = Connect c.args.mailbox in
     let n = c.in-Connected.number in
     let told_history : IsTold v c.tell.new.pass c.in_ok-tell.field-0 b = record { told_is = c.in_ok-tell.ensures.0; begins = c.in_ok-tell.ensures.1; same = c.in_ok-tell.ensures.2 } in
     let fresh : IsFresh v b c.connection-connection.result = record { legal = c.state.ensures.history; taken = c.took-took.ensures.own; at = c.connection-connection.ensures; none = c.if-connection-ne0.false } in
@@ -47,7 +47,7 @@ returns g c =
     let on : is_accepted (after l) x ≡ true = accepted (after l) x (λ refusal e. c.in_default.not-Refused refusal (said ∙ e)) in
     let more : c.publish.new.self.history ≡ l ++ x ∷ [] =
     c.in-Ok.ensures.history ∙ ap (λ (p : Publication g.row.M.Denot). with_next p.history x) c.self.view_is ∙ ap (λ (a : Bool). if a then l ++ x ∷ [] else l) on in (
-      joined v c.tell.new.pass c.count_in.new.self c.in_ok-tell.field-0 c.front.result b c.publish.new.self c.connection-connection.result n c.args.mailbox c.args.most (Connected n) told_history fresh on (sym c.in-Connected.is ∙ said) refl more c.front.ensures c.count_in.ensures,
+      joined v c.tell.new.pass c.count_in.new.self c.in_ok-tell.field-0 c.front.result b c.publish.new.self c.connection-connection.result n c.args.mailbox (Connected n) told_history fresh on (sym c.in-Connected.is ∙ said) refl more c.front.ensures c.count_in.ensures,
       ap (λ (p : PassState g.row.M.Denot). Connected p.connection) (sym c.count_in.ensures),
       ap (λ (p : PassState g.row.M.Denot). p.is_closed) c.count_in.ensures ∙ ap (λ (p : PassState g.row.M.Denot). p.is_closed) c.in_ok-tell.ensures.2 ∙ sym c.if-is_closed.ensures,
     )
