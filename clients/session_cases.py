@@ -241,7 +241,7 @@ def most_names():
     for number in range(1024):
         lines.append(f"1 calls 2 RequestName s:a.n{number} u:0 flags=1")
         lines += ["1 forgets"] if number % 500 == 499 else []
-    error = "error org.freedesktop.DBus -> :1.1 reply_serial=3 org.freedesktop.DBus.Error.LimitsExceeded (s) \"LimitsExceeded: names of the bus\""
+    error = "error org.freedesktop.DBus -> :1.1 reply_serial=3 org.freedesktop.DBus.Error.LimitsExceeded (s) \"LimitsExceeded: names of the bus (limit all-names)\""
     lines += ["1 forgets", "1 calls 3 RequestName s:a.x u:0", f"1 reads {error}", "1 calls 4 ReleaseName s:a.n7 flags=1", "1 forgets",
               "1 calls 5 RequestName s:a.x u:0", "1 reads method_return org.freedesktop.DBus -> :1.1 reply_serial=5 (u) 1", "1 forgets"]
     case("most_names", *lines)

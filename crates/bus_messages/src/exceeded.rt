@@ -52,9 +52,9 @@ impl Exceeded {
                 "instructions of programs of all connections (limit all-instructions)"
             }
             Exceeded::BusConnections => "connections of the bus (limit clients)",
-            Exceeded::BusEntries => "rules and programs of the bus",
-            Exceeded::BusNames => "names of the bus",
-            Exceeded::BusClaims => "owners of names of the bus, and those that wait",
+            Exceeded::BusEntries => "rules and programs of the bus (limit all-rules)",
+            Exceeded::BusNames => "names of the bus (limit all-names)",
+            Exceeded::BusClaims => "owners of names of the bus, and those that wait (limit claims)",
             Exceeded::BusReaders => "readers of the bus at one time",
             Exceeded::BusWorkers => "workers of the bus",
             Exceeded::BusBroadcasts => "broadcasts of the bus",
