@@ -53,7 +53,8 @@ impl<J: Naming, R: Wait + Drop> Hub<J, R> {
         let limits = start.limits;
         let instructions = Arc::new(alloc, AllInstructions::new(limits.all_instructions))?;
         let rests = Vec::with_capacity(alloc, RESTS)?;
-        let Ok(bus) = Bus::with_readers(rt, alloc, start.key, opened, READERS) else {
+        let Ok(bus) = Bus::with_capacity(rt, alloc, start.key, opened, READERS, limits.capacity)
+        else {
             return Err(ErrorKind::OutOfMemory.into());
         };
         Ok(Hub {

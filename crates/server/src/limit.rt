@@ -8,12 +8,18 @@ ghost use Rattle.server.specs.Limits.{standard_of, most_of};
 pub enum Limit {
     /// Match rules and attached programs of one connection.
     Rules,
+    /// Match rules and attached programs of all connections, at most 65,534.
+    AllRules,
     /// Instructions of the programs that one connection has attached.
     Instructions,
     /// Instructions of the programs that all connections have attached.
     AllInstructions,
     /// Names that one connection asked for.
     Names,
+    /// Names that there are claims on, or rules from, of all connections, at most 1,024.
+    AllNames,
+    /// Claims of all connections on names, at most 16,384.
+    Claims,
     /// Calls of one connection that wait for their replies.
     Calls,
     /// Messages that wait for one connection.
@@ -46,11 +52,14 @@ struct Terms {
 
 impl Limit {
     /// All of them, in the order of the table.
-    pub const ALL: [Limit; 12] = [
+    pub const ALL: [Limit; 15] = [
         Limit::Rules,
+        Limit::AllRules,
         Limit::Instructions,
         Limit::AllInstructions,
         Limit::Names,
+        Limit::AllNames,
+        Limit::Claims,
         Limit::Calls,
         Limit::Messages,
         Limit::Bytes,
@@ -102,6 +111,12 @@ impl Limit {
                 most: u32::MAX,
                 unit: "rules and programs",
             },
+            Limit::AllRules => Terms {
+                name: "all-rules",
+                standard: 16_384,
+                most: 65_534,
+                unit: "rules and programs",
+            },
             Limit::Instructions => Terms {
                 name: "instructions",
                 standard: 65_536,
@@ -119,6 +134,18 @@ impl Limit {
                 standard: 512,
                 most: u32::MAX,
                 unit: "names",
+            },
+            Limit::AllNames => Terms {
+                name: "all-names",
+                standard: 1_024,
+                most: 1_024,
+                unit: "names",
+            },
+            Limit::Claims => Terms {
+                name: "claims",
+                standard: 4_096,
+                most: 16_384,
+                unit: "claims",
             },
             Limit::Calls => Terms {
                 name: "calls",

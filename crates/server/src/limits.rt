@@ -6,7 +6,7 @@ ghost use Rattle.server.specs.Limits.{standard_of, number_of};
 
 use crate::limit::Limit;
 use members::Room;
-use sessions::Shares;
+use sessions::{Capacity, Shares};
 use std::time::Duration;
 
 /// The limits of a server. At most as many connections are open at once as there may be after Hello and without it, together.
@@ -14,6 +14,8 @@ use std::time::Duration;
 pub struct Limits {
     /// How many threads serve the connections.
     pub workers: usize,
+    /// How much there may be on the bus, of all clients together.
+    pub capacity: Capacity,
     /// How much of the bus one client may have.
     pub shares: Shares,
     /// How many instructions the programs that all clients have attached may have together.
@@ -38,6 +40,7 @@ impl Limits {
     {
         Limits {
             workers: 1,
+            capacity: Capacity::standard(),
             shares: Shares::standard(),
             all_instructions: Limit::AllInstructions.standard(),
             room: Room {
@@ -73,15 +76,18 @@ impl Limits {
         let mut limits = self;
         match limit {
             Limit::Rules => limits.shares.entries = number,
+            Limit::AllRules => limits.capacity.entries = number,
             Limit::Instructions => limits.shares.instructions = number,
             Limit::AllInstructions => limits.all_instructions = number,
             Limit::Names => limits.shares.names = number,
+            Limit::AllNames => limits.capacity.names = number,
+            Limit::Claims => limits.capacity.claims = number,
             Limit::Calls => limits.shares.calls = number,
             Limit::Messages => limits.room.messages = number as usize,
             Limit::Bytes => limits.room.bytes = number as usize,
             Limit::Unfinished => limits.unfinished = number,
             Limit::Silence => limits.silence = number,
-            Limit::Clients => limits.shares.connections = number,
+            Limit::Clients => limits.capacity.connections = number,
             Limit::Newcomers => limits.newcomers = number,
             Limit::Hello => limits.hello = number,
         }

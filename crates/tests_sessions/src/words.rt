@@ -78,7 +78,7 @@ fn words_that_are_no_row(rt: HostRuntime) {
         ),
         (
             &["--limit", "rulez=5"],
-            "  --limit rulez=5: there is no such limit; there are rules, instructions, all-instructions, names, calls, messages, bytes, unfinished, silence, clients, newcomers, hello",
+            "  --limit rulez=5: there is no such limit; there are rules, all-rules, instructions, all-instructions, names, all-names, claims, calls, messages, bytes, unfinished, silence, clients, newcomers, hello",
         ),
         (
             &["--limit=rules=1", "--limit=rules=0"],
@@ -94,7 +94,7 @@ fn words_that_are_no_row(rt: HostRuntime) {
         ),
         (
             &["--limit", "names"],
-            "  --limit names: NAME=N is wanted, NAME one of rules, instructions, all-instructions, names, calls, messages, bytes, unfinished, silence, clients, newcomers, hello",
+            "  --limit names: NAME=N is wanted, NAME one of rules, all-rules, instructions, all-instructions, names, all-names, claims, calls, messages, bytes, unfinished, silence, clients, newcomers, hello",
         ),
         (
             &["--print-address", "2"],

@@ -151,7 +151,7 @@ pub(crate) static COMMANDS: [CommandHelp; 7] = [
                 name: "limit",
                 form: Form::Value(Value::Text("NAME=N")),
                 is_required: false,
-                text: "Sets a limit: rules, instructions, all-instructions, names, calls, messages, bytes, unfinished, silence, clients, newcomers, hello",
+                text: "Sets a limit: rules, all-rules, instructions, all-instructions, names, all-names, claims, calls, messages, bytes, unfinished, silence, clients, newcomers, hello",
             },
             ArgumentHelp {
                 name: "log",
