@@ -36,7 +36,7 @@ const KEY: IndexKey = IndexKey {
 
 /// One more connection, by its number.
 fn connect(state: &mut BusState<()>) -> Option<u64> {
-    match state.apply(&Command::Connect((), 256)).ok()? {
+    match state.apply(&Command::Connect(())).ok()? {
         Reply::Connected(connection) => Some(connection),
         _ => None,
     }

@@ -65,7 +65,7 @@ impl<J: Naming> Client<J> {
             Action::Get(wanted) => return self.get(place, &wanted),
             Action::Ask(wanted) => return other_subject(place.alloc, self.subject, wanted),
             Action::End(words) => return self.end(place, words),
-            Action::Serve(_) | Action::Machine(_) | Action::User(_) => {
+            Action::Serve(_) | Action::Limit(_) | Action::Machine(_) | Action::User(_) => {
                 return Err(LineError::Unreadable);
             }
         }

@@ -3,9 +3,9 @@
 use crate::message::{bus_call, message};
 use crate::received::Wanted;
 use crate::serving::Serving;
-use crate::shares::read_shares;
+use crate::shares::{read_capacity, read_shares};
 use case_files::{LineError, digits};
-use sessions::Shares;
+use sessions::{Capacity, Shares};
 use std::alloc::Global;
 
 /// What a client says before its messages.
@@ -42,6 +42,8 @@ pub(crate) enum Action<'a> {
     Forget,
     /// From here on it may have so much of the bus.
     Share(Shares),
+    /// From here on all together may have so much.
+    Limit(Capacity),
     /// It has this machine's id.
     Machine([u8; 32]),
     /// Each client runs as the user of this number.
@@ -94,6 +96,7 @@ impl<'a> Action<'a> {
             "asks" => Ok(Action::Ask(subject(rest)?)),
             "cuts" => Ok(Action::Cut(rest.parse::<usize>()?)),
             "shares" => Ok(Action::Share(read_shares(rest)?)),
+            "limits" => Ok(Action::Limit(read_capacity(rest)?)),
             "enters" => Ok(Action::Enter(entry(alloc)?)),
             "forgets" => Ok(Action::Forget),
             "machine" => Ok(Action::Machine(machine_id(rest)?)),

@@ -46,18 +46,27 @@ impl<J: Naming> Clients<J> {
             return unreadable(place.alloc);
         };
         match line.who {
-            Who::Bus => self.describe(place.alloc, line.action),
+            Who::Bus => self.describe(place, line.action),
             Who::Served => self.served.act(place, line.action),
             Who::Client(number) => self.act(place, number, line.action),
         }
     }
 
-    /// Sets what the bus says of itself to the clients that come from here on.
-    fn describe(&mut self, alloc: Global, action: Action<'_>) -> Result<Option<String>, LineError> {
+    /// Sets what the bus says of itself to the clients that come from here on, and how much there may be on it.
+    fn describe<R: Wait>(
+        &mut self,
+        place: &Place<'_, '_, J, R>,
+        action: Action<'_>,
+    ) -> Result<Option<String>, LineError> {
         match action {
             Action::Machine(id) => self.identity.machine_id = Some(id),
             Action::User(number) => self.identity.user = Some(number),
-            _ => return unreadable(alloc),
+            Action::Limit(most) => {
+                if place.bus.control(place.rt).limit(most).is_err() {
+                    return Err(LineError::NoMemory);
+                }
+            }
+            _ => return unreadable(place.alloc),
         }
         Ok(None)
     }

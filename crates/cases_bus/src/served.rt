@@ -45,6 +45,7 @@ impl Served {
             Action::End(words) => return self.end(place.alloc, words),
             Action::Cut(_)
             | Action::Share(_)
+            | Action::Limit(_)
             | Action::Machine(_)
             | Action::User(_)
             | Action::Ask(_) => {

@@ -94,7 +94,7 @@ fn command_of(alloc: Global, world: &World, event: &TextEvent<'_>) -> Result<Com
         }
         TextEvent::DropOne { connection } => Ok(Command::DropOne(*connection)),
         TextEvent::Close { connection } => Ok(Command::Close(*connection)),
-        _ => Ok(Command::Connect((), 256)),
+        _ => Ok(Command::Connect(())),
     }
 }
 

@@ -27,7 +27,7 @@ fn answers_before_anyone_connects(rt: HostRuntime) {
     let state = empty(&rt, rt.alloc());
     let program = compile(&rt, rt.alloc(), "member='c'");
     let closed = Reply::Refused(Refusal::Closed);
-    expect_answer(&rt, &state, Command::Connect((), 256), Reply::Connected(1));
+    expect_answer(&rt, &state, Command::Connect(()), Reply::Connected(1));
     expect_answer(&rt, &state, Command::AddRule(1, program), closed);
     let closed = Reply::Refused(Refusal::Closed);
     expect_answer(&rt, &state, Command::Close(1), closed);
@@ -47,12 +47,7 @@ fn expect_owner<R: Abort>(rt: &R, state: &BusState<()>, connection: u64) {
 }
 
 fn connect<R: Abort>(rt: &R, state: &mut BusState<()>, number: u64) {
-    expect_reply(
-        rt,
-        state,
-        Command::Connect((), 256),
-        Reply::Connected(number),
-    );
+    expect_reply(rt, state, Command::Connect(()), Reply::Connected(number));
 }
 
 fn expect_counts<R: Abort>(rt: &R, state: &BusState<()>, all: u64, of_first: u64) {

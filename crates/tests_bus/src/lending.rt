@@ -5,7 +5,7 @@ ghost use Rattle.std.specs.Prelude.{◌≡◌};
 use crate::fixture::{KEY, close};
 use crate::letters::new_letterbox;
 use published::{Naming, Opened};
-use router::{Bus, BusError, Letterbox, Pass};
+use router::{Bus, BusError, Capacity, Letterbox, Pass};
 use std::alloc::Global;
 use std::marker::Brand;
 use std::mem::forget;
@@ -21,7 +21,14 @@ fn one_reader_for_two(rt: HostRuntime) {
 fn lend_in_turn<J: Naming, R: Wait + Abort>(rt: &R, alloc: Global, opened: Opened<Letterbox>)
     requires { opened ≡ J.book }
 {
-    let bus = Bus::<J, Letterbox, &R>::with_readers(rt, alloc, KEY, opened, 1).expect(rt, "a bus");
+    let bus = Bus::<J, Letterbox, &R>::with_capacity(
+        rt,
+        alloc,
+        KEY,
+        opened,
+        1,
+        Capacity::standard(),
+    ).expect(rt, "a bus");
     let mut first = connect(rt, alloc, &bus);
     let mut second = connect(rt, alloc, &bus);
     expect_closed(rt, &mut first);

@@ -2,11 +2,11 @@
 
 ghost use Rattle.std.specs.Prelude.{◌≡◌};
 
-use crate::fixture::{expect_error, expect_reply, new_bus};
+use crate::fixture::{KEY, expect_error, expect_reply, new_bus};
 use crate::letters::{connect, new_letterbox};
 use program_table::Reply;
 use published::{Naming, Opened};
-use router::{Bus, BusError, Letterbox};
+use router::{Bus, BusError, Capacity, Letterbox};
 use std::alloc::Global;
 use std::marker::Brand;
 use std::mem::forget;
@@ -59,5 +59,29 @@ fn connect_all<J: Naming, R: Wait + Abort>(rt: &R, alloc: Global, opened: Opened
     let last = bus.connect(rt, &mut pass, new_letterbox(rt, alloc));
     expect_error(rt, last, BusError::ConnectionsFull);
     forget(pass);
+    forget(bus);
+}
+
+// A bus that may have one connection.
+#[test]
+fn second_of_one_connection(rt: HostRuntime) {
+    connect_two::<Brand, _>(&rt, rt.alloc(), Opened::<Letterbox>::new());
+}
+
+fn connect_two<J: Naming, R: Wait + Abort>(rt: &R, alloc: Global, opened: Opened<Letterbox>)
+    requires { opened ≡ J.book }
+{
+    let capacity = Capacity {
+        connections: 1,
+        ..Capacity::standard()
+    };
+    let bus = Bus::<J, Letterbox, &R>::with_capacity(rt, alloc, KEY, opened, 2, capacity).expect(
+        rt, "a bus",
+    );
+    forget(connect(rt, alloc, &bus));
+    let mut second = bus.pass(rt).expect(rt, "a pass");
+    let last = bus.connect(rt, &mut second, new_letterbox(rt, alloc));
+    expect_error(rt, last, BusError::ConnectionsFull);
+    forget(second);
     forget(bus);
 }

@@ -57,7 +57,7 @@ fn publish_two<J: Naming, R: Wait + Abort>(
     letterbox: Letterbox,
     publisher: &mut Publisher<J, Letterbox, &R>,
 ) {
-    let _ = publish(rt, publisher, Command::Connect(letterbox, 256));
+    let _ = publish(rt, publisher, Command::Connect(letterbox));
     let _ = publish(rt, publisher, Command::Request(1, name_a(rt), 0));
     assert_eq!(rt; publisher.commands(), 2);
     assert_eq!(rt; publisher.commands_of(1), 2);

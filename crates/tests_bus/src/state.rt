@@ -69,7 +69,7 @@ pub(crate) fn accept<R: Abort>(rt: &R, state: &mut BusState<()>, command: Comman
 
 /// Connects the next connection.
 pub(crate) fn connect<R: Abort>(rt: &R, state: &mut BusState<()>) {
-    accept(rt, state, Command::Connect((), 256));
+    accept(rt, state, Command::Connect(()));
 }
 
 /// Adds a rule of the connection.

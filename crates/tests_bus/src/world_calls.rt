@@ -41,7 +41,7 @@ fn run<R: Abort>(rt: &R, world: &mut World, events: &[Event], answers: &mut Vec<
 fn several_events(rt: HostRuntime) {
     let mut world = new_world(&rt, rt.alloc());
     let mut events = Vec::new(rt.alloc());
-    add(&rt, &mut events, Event::Command(Command::Connect((), 256)));
+    add(&rt, &mut events, Event::Command(Command::Connect(())));
     add_begin(&rt, rt.alloc(), &mut events);
     add(&rt, &mut events, Event::Command(Command::Close(1)));
     add(&rt, &mut events, Event::End(1));
@@ -70,7 +70,7 @@ fn expect_no_events<R: Abort>(rt: &R, world: &World) {
 fn questions_change_nothing(rt: HostRuntime) {
     let world = new_world(&rt, rt.alloc());
     let closed = Reply::Refused(Refusal::Closed);
-    ask(&rt, &world, Command::Connect((), 256), Reply::Connected(1));
+    ask(&rt, &world, Command::Connect(()), Reply::Connected(1));
     ask(&rt, &world, Command::Close(1), closed);
     expect_no_events(&rt, &world);
     forget(world);
