@@ -20,7 +20,7 @@ max_names = 1024
 
 -- how many claims there can be
 abbrev pub max_claims : ℕ
-max_claims = 16384
+max_claims = 4096
 
 -- the claims in queue order, and for each slot the name that has it, with the number of rules whose sender is
 -- that name

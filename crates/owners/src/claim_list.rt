@@ -37,11 +37,11 @@ impl Model for ClaimList {
 
 /// Puts a claim last.
 fn put_last(claims: &mut IndexSet<SlotClaim>, claim: SlotClaim)
-    requires room { 16384 ≤ length claims.old.keys + spare claims.old }
-    requires fits { length claims.old.keys + 1 ≤ 16384 }
+    requires room { 4096 ≤ length claims.old.keys + spare claims.old }
+    requires fits { length claims.old.keys + 1 ≤ 4096 }
     requires new { list_any (is_slot_claim claim.slot claim.connection) claims.old.keys ≡ false }
     ensures claims { claims.new.keys ≡ claims.old.keys ++ claim ∷ [] }
-    ensures room { 16384 ≤ length claims.new.keys + spare claims.new }
+    ensures room { 4096 ≤ length claims.new.keys + spare claims.new }
     ensures apart { IsDistinct same_claim claims.new.keys }
 {
     match claims.insert(claim) {
@@ -57,12 +57,12 @@ fn put_staying(
     slot: Option<u16>,
     connection: u64,
 )
-    requires fits { length claims.now ≤ 16384 }
+    requires fits { length claims.now ≤ 4096 }
     requires apart { IsDistinct same_claim claims.now }
     requires empty { IsEmpty staying.old }
-    requires room { 16384 ≤ spare staying.old }
+    requires room { 4096 ≤ spare staying.old }
     ensures claims { staying.new.keys ≡ filter (λ c. not (is_leaving slot connection c)) claims.now }
-    ensures room { 16384 ≤ length staying.new.keys + spare staying.new }
+    ensures room { 4096 ≤ length staying.new.keys + spare staying.new }
     ensures apart { IsDistinct same_claim staying.new.keys }
 {
     for claim in claims {
@@ -74,12 +74,12 @@ fn put_staying(
 
 /// Puts the claims into an empty set, one of them with other flags.
 fn put_flagged(staying: &mut IndexSet<SlotClaim>, claims: &[SlotClaim], flagged: SlotClaim)
-    requires fits { length claims.now ≤ 16384 }
+    requires fits { length claims.now ≤ 4096 }
     requires apart { IsDistinct same_claim claims.now }
     requires empty { IsEmpty staying.old }
-    requires room { 16384 ≤ spare staying.old }
+    requires room { 4096 ≤ spare staying.old }
     ensures claims { staying.new.keys ≡ slot_with_flags flagged.slot flagged.connection flagged.flags claims.now }
-    ensures room { 16384 ≤ length staying.new.keys + spare staying.new }
+    ensures room { 4096 ≤ length staying.new.keys + spare staying.new }
     ensures apart { IsDistinct same_claim staying.new.keys }
 {
     for claim in claims {
@@ -133,7 +133,7 @@ impl ClaimList {
 
     /// The claim takes the place of the connection's on the name, or is put last.
     pub(crate) fn put(&mut self, claim: SlotClaim)
-        requires { length (claim_put claim self.old) ≤ 16384 }
+        requires { length (claim_put claim self.old) ≤ 4096 }
         ensures { self.new ≡ claim_put claim self.old }
     {
         if self.claims.contains(&claim) {
@@ -146,7 +146,7 @@ impl ClaimList {
 
     /// The claim is put first.
     pub(crate) fn put_first(&mut self, claim: SlotClaim)
-        requires fits { length self.old + 1 ≤ 16384 }
+        requires fits { length self.old + 1 ≤ 4096 }
         requires new { list_any (is_slot_claim claim.slot claim.connection) self.old ≡ false }
         ensures { self.new ≡ claim ∷ self.old }
     {

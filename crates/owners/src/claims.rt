@@ -21,7 +21,7 @@ use summary::Slots;
 pub const MAX_NAMES: usize = 1024;
 
 /// How many claims there can be.
-pub const MAX_CLAIMS: usize = 16384;
+pub const MAX_CLAIMS: usize = 4096;
 
 /// How many rules can have one name as their sender.
 pub const MAX_RULES: u32 = 65534;
@@ -96,7 +96,7 @@ impl Claims {
     /// # Errors
     ///
     /// NamesFull where the name has no slot and none is free, then QueueFull where there would be more than
-    /// 16,384 claims.
+    /// 4,096 claims.
     pub fn request(
         &mut self,
         name: &WellKnown,

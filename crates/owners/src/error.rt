@@ -11,7 +11,7 @@ use std::fmt;
 pub enum ClaimError {
     /// The name has no slot, and all 1,024 are used.
     NamesFull,
-    /// There would be more than 16,384 claims.
+    /// There would be more than 4,096 claims.
     QueueFull,
     /// The text isn't a well-known bus name.
     BadName,

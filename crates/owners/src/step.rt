@@ -121,7 +121,7 @@ fn remove_leaving(claims: &mut ClaimList, slot: u16, leaving: Option<u64>)
 
 /// Does the step of a request.
 pub(crate) fn do_step(claims: &mut ClaimList, step: Step, claim: SlotClaim)
-    requires { length (step_done step claim claims.old) ≤ 16384 }
+    requires { length (step_done step claim claims.old) ≤ 4096 }
     ensures { claims.new ≡ step_done step claim claims.old }
 {
     match step {

@@ -8,6 +8,6 @@ use Rattle.owners.proofs.claim_list.put_flagged.Given as goal
 abbrev pub invariant-loop-claim : goal.invariant-loop-claim
 invariant-loop-claim l = record {
   claims : l.staying.keys ≡ slot_with_flags l.flagged.slot l.flagged.connection l.flagged.flags (take l.claim-index l.claims);
-  room : 16384 ≤ length l.staying.keys + spare l.staying;
+  room : 4096 ≤ length l.staying.keys + spare l.staying;
   apart : IsDistinct same_claim l.staying.keys;
 }

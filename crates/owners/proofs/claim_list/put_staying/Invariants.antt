@@ -10,6 +10,6 @@ use Rattle.owners.proofs.claim_list.put_staying.Given as goal
 abbrev pub invariant-loop-claim : goal.invariant-loop-claim
 invariant-loop-claim l = record {
   claims : l.staying.keys ≡ filter (λ (c : SlotClaim). not (is_leaving l.slot l.connection c)) (take l.claim-index l.claims);
-  room : 16384 ≤ length l.staying.keys + spare l.staying;
+  room : 4096 ≤ length l.staying.keys + spare l.staying;
   apart : IsDistinct same_claim l.staying.keys;
 }

@@ -17,7 +17,7 @@ invariant_of-self c =
     let fewer = length-filter-le stays cs in
     record {
       fits = omega (arith, ap length (ap (λ s. s.keys) exchanged ∙ left_is), fewer, c.self.invariant.fits);
-      room = subst (λ s. 16384 ≤ length s.keys + spare s) (sym exchanged) c.put_staying.ensures.room;
+      room = subst (λ s. 4096 ≤ length s.keys + spare s) (sym exchanged) c.put_staying.ensures.room;
       apart = subst (λ s. IsDistinct same_claim s.keys) (sym exchanged) c.put_staying.ensures.apart;
       empty = c.exchange.ensures.empty;
       cleared_room = omega (arith, c.self.invariant.room, c.exchange.ensures.room);
