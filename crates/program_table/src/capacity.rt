@@ -4,7 +4,7 @@ ghost use Rattle.std.specs.Prelude.{◌≡◌};
 ghost use Rattle.program_table.specs.Capacities.{standard_capacity};
 
 /// How many of each there may be on a bus, of all connections together. There is never more than rooms were taken for: 4,096
-/// connections, 1,024 names, 16,384 claims and 65,534 entries.
+/// connections, 1,024 names, 4,096 claims and 65,534 entries.
 #[derive(Clone, Copy, Debug, PartialEq, Eq)]
 pub struct Capacity {
     /// Connections.

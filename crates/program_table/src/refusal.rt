@@ -13,9 +13,9 @@ pub enum Refusal {
     ConnectionsFull,
     /// There are as many entries as there may be, or the last id was given.
     EntriesFull,
-    /// A name needs a slot, and all 1,024 are used.
+    /// A name needs a slot, and as many are used as there may be.
     NamesFull,
-    /// There would be more than 4,096 claims.
+    /// There would be more claims than there may be.
     QueueFull,
     /// The connection has no entry with an equal rule.
     RuleNotFound,

@@ -14,14 +14,12 @@ returns-in_err-slot_within c =
 
 pub returns-then-is_over : goal.returns-then-is_over
 returns-then-is_over c =
-    let said = c.slot_within.ensures ∙ ap (λ t. slot_within c.args.most.now (Some t) c.args.self.now.slots) c.as_str.ensures in
-    let passed : slot_within c.args.most.now (Some c.args.name.now) c.args.self.now.slots ≡ Ok tt = sym said ∙ c.in_ok-slot_within.was in
     ap (λ (b : Bool). refuse_if b QueueFull) (sym c.if-is_over.true)
-    ∙ sym (slot_is_within c.args.most.now c.args.name.now c.args.connection c.args.flags c.args.self.now c.is_over.result passed c.is_over.ensures)
+    ∙ sym (slot_is_within c.args.most.now c.args.name.now c.args.connection c.args.flags c.args.self.now c.is_over.result
+    (sym (c.slot_within.ensures ∙ ap (λ t. slot_within c.args.most.now (Some t) c.args.self.now.slots) c.as_str.ensures) ∙ c.in_ok-slot_within.was) c.is_over.ensures)
 
 pub returns-else-is_over : goal.returns-else-is_over
 returns-else-is_over c =
-    let said = c.slot_within.ensures ∙ ap (λ t. slot_within c.args.most.now (Some t) c.args.self.now.slots) c.as_str.ensures in
-    let passed : slot_within c.args.most.now (Some c.args.name.now) c.args.self.now.slots ≡ Ok tt = sym said ∙ c.in_ok-slot_within.was in
     ap (λ (b : Bool). refuse_if b QueueFull) (sym c.if-is_over.false)
-    ∙ sym (slot_is_within c.args.most.now c.args.name.now c.args.connection c.args.flags c.args.self.now c.is_over.result passed c.is_over.ensures)
+    ∙ sym (slot_is_within c.args.most.now c.args.name.now c.args.connection c.args.flags c.args.self.now c.is_over.result
+    (sym (c.slot_within.ensures ∙ ap (λ t. slot_within c.args.most.now (Some t) c.args.self.now.slots) c.as_str.ensures) ∙ c.in_ok-slot_within.was) c.is_over.ensures)
