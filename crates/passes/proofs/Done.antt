@@ -1,6 +1,6 @@
 -- What a pass has seen of its own commands, after one more of them or none.
-use Rattle.std.proofs.Common.{◌≡◌, ◌≢◌, ℕ, ◌+◌, ◌<◌, ◌≤◌, Bool, true, false, List, [], ◌∷◌, ◌++◌, length, Option, Some, None, refl, sym, ap, ◌∙◌, subst, arith, length-append}
-use Rattle.std.specs.Prelude.{if◌then◌else◌, MatchOption}
+use Rattle.std.proofs.Common.{◌≡◌, ◌≢◌, ℕ, ◌+◌, ◌<◌, ◌≤◌, Bool, true, false, List, [], ◌∷◌, ◌++◌, length, refl, sym, ap, ◌∙◌, subst, arith, length-append}
+use Rattle.std.specs.Prelude.{if◌then◌else◌}
 use mathlib.Core.List.{IsPrefix}
 use Rattle.program_table.specs.declared.command.Command.{Command}
 use Rattle.program_table.specs.declared.command.Reply.{Reply}
@@ -10,7 +10,6 @@ use Rattle.program_table.specs.History.{after, own_commands, is_command_of, IsHi
 use Rattle.program_table.specs.State.{State}
 use Rattle.published.specs.Publication.{Publication}
 use Rattle.published.proofs.Counted.{commands-owned}
-use Rattle.published.proofs.Fronts.{prefix_self}
 use Rattle.passes.specs.Passes.{PassState, HasTaken}
 use Rattle.passes.specs.Calls.{IsDone, KeepsOwn}
 use Rattle.passes.proofs.Owned.{own-push, own_grows, own_same}

@@ -21,11 +21,11 @@ pub enum BusError {
     NoMemory,
     /// There are as many connections as the bus may have.
     ConnectionsFull,
-    /// There are 16,384 entries, or the last id was given.
+    /// There are as many entries as there may be, or the last id was given.
     EntriesFull,
-    /// A name needs a slot, and all 1,024 are used.
+    /// A name needs a slot, and as many are used as there may be.
     NamesFull,
-    /// There would be more than 4,096 claims.
+    /// There would be more claims than there may be.
     QueueFull,
     /// The connection has no entry with an equal rule.
     RuleNotFound,

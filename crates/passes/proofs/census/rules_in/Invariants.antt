@@ -1,4 +1,4 @@
-use Rattle.std.proofs.Common.{ℕ, List, ◌++◌, length}
+use Rattle.std.proofs.Common.{List, ◌++◌, length}
 use Rattle.std.specs.Prelude.{filter}
 use Rattle.entry_table.specs.CompiledRule.{CompiledRule}
 use Rattle.entry_table.specs.Entries.{is_rule_after}

@@ -1,0 +1,18 @@
+use Rattle.std.proofs.Common.{◌≡◌, ◌++◌, ◌∷◌, [], List, sym, ◌∙◌, subst}
+use mathlib.Core.List.{IsPrefix}
+use Rattle.published.proofs.Fronts.{prefix_trans}
+use Rattle.program_table.specs.declared.command.Command.{Command}
+use Rattle.passes.proofs.laws.accepted_is_in_force.Goals as goal
+
+-- what was seen begins with the command and all before it, and so does what comes later
+later_too : {M : Type 0} (told seen learned last : List (Command M)) → told ≡ seen → IsPrefix seen learned → IsPrefix learned last → IsPrefix told last
+later_too {M = M} told seen learned last is learns goes_on =
+    subst (λ (l : List (Command M)). IsPrefix l last) (sym is) (prefix_trans seen learned last learns goes_on)
+
+pub returns-clause-asked : goal.returns-clause-asked
+returns-clause-asked g c v w u x before next later after command other reply answer done learned asks =
+    later_too (before.history ++ command ∷ []) w.seen u.seen later.history (sym (done.seen ∙ done.published)) learned asks.begins
+
+pub returns-clause-routed : goal.returns-clause-routed
+returns-clause-routed g c v w u x before next command reply source bytes recipients refused done learned routes =
+    later_too (before.history ++ command ∷ []) w.seen u.seen x.seen (sym (done.seen ∙ done.published)) learned routes.sends.begins

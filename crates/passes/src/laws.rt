@@ -1,0 +1,23 @@
+// What calls of passes come to together.
+
+ghost use Rattle.std.specs.Prelude.{◌++◌, ◌∷◌, [], ℕ, List};
+ghost use mathlib.Core.List.{IsPrefix};
+ghost use Rattle.program_table.specs.declared.command.Command.{Command};
+ghost use Rattle.program_table.specs.declared.command.Reply.{Reply};
+ghost use Rattle.published.specs.Publication.{Publication};
+ghost use Rattle.passes.specs.declared.reading.Source.{Source};
+ghost use Rattle.passes.specs.Passes.{PassState};
+ghost use Rattle.passes.specs.Calls.{IsDone};
+ghost use Rattle.passes.specs.Routes.{HasRouted};
+
+use routing::Mailbox;
+
+/// What was answered is in force for whoever learned of it. Where a command was accepted of a pass, and another one, or the same,
+/// has since seen all that it had seen then, as `learn` ensures of the history that it tells: what the other asks for is
+/// accepted, and what it sends is routed, after a history that begins with the command and all that came before it.
+pub fn accepted_is_in_force<M: Mailbox>()
+    ensures asked { (v w u x : PassState M) (before next later after : Publication M) (command other : Command M) (reply answer : Reply)
+        → IsDone v before command reply w next → IsPrefix w.seen u.seen → IsDone u later other answer x after → IsPrefix (before.history ++ command ∷ []) later.history }
+    ensures routed { (v w u x : PassState M) (before next : Publication M) (command : Command M) (reply : Reply) (source : Source) (bytes recipients refused : List ℕ)
+        → IsDone v before command reply w next → IsPrefix w.seen u.seen → HasRouted M.outbox_of source bytes u recipients refused x → IsPrefix (before.history ++ command ∷ []) x.seen }
+{}
