@@ -26,7 +26,7 @@ standard_of Hello = 30
 abbrev pub most_of : Limit → ℕ
 most_of AllRules = 65534
 most_of AllNames = 1024
-most_of Claims = 16384
+most_of Claims = 4096
 most_of Clients = 4096
 most_of _ = 4294967295
 

@@ -18,7 +18,7 @@ pub enum Limit {
     Names,
     /// Names that there are claims on, or rules from, of all connections, at most 1,024.
     AllNames,
-    /// Claims of all connections on names, at most 16,384.
+    /// Claims of all connections on names, at most 4,096.
     Claims,
     /// Calls of one connection that wait for their replies.
     Calls,
@@ -144,7 +144,7 @@ impl Limit {
             Limit::Claims => Terms {
                 name: "claims",
                 standard: 4_096,
-                most: 16_384,
+                most: 4_096,
                 unit: "claims",
             },
             Limit::Calls => Terms {
