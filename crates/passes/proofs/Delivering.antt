@@ -8,7 +8,7 @@ use Rattle.program_table.specs.History.{after}
 use Rattle.passes.specs.NameOwners.{IsOwner}
 use Rattle.program_table.specs.State.{State}
 use Rattle.routing.specs.SenderView.{SenderView}
-use Rattle.routing.specs.Stops.{puts_at, shut_at, HasStop, AllFit, Keeps, Unrouted, SentTo}
+use Rattle.routing.specs.Stops.{puts_at, shut_at, waits_at, HasStop, AllFit, Keeps, Unrouted, SentTo}
 use Rattle.passes.specs.declared.error.BusError.{BusError}
 use Rattle.passes.specs.declared.error.BusError.TheVariants as errors
 use Rattle.passes.specs.declared.unicasts.Sent.{Sent}
@@ -83,9 +83,9 @@ module _ {M : Type 0} where
           let W : PassState M → Type 0 = λ x. (m : ℕ) → IsOwner (after x.seen) to m → ⊥ in
           subst W (sym is) (subst S t.state none)
 
-      put : (m : ℕ) → SentTo m bytes true mid new → Sends outbox_of v w × (w.count ≡ v.count) × HasPut (λ j. m == j) bytes None v w
+      put : (m : ℕ) → SentTo m bytes true mid new → Sends outbox_of v w × (w.count ≡ v.count) × HasPut (λ j. m == j) bytes None v w × (waits_at m w.stops ≡ true)
       put m sent =
-          let W : PassState M → Type 0 = λ x. Sends outbox_of v x × (x.count ≡ v.count) × HasPut (λ j. m == j) bytes None v x in
+          let W : PassState M → Type 0 = λ x. Sends outbox_of v x × (x.count ≡ v.count) × HasPut (λ j. m == j) bytes None v x × (waits_at m x.stops ≡ true) in
           subst W (sym is) (
             sends_to outbox_of v l new t.begins all fits,
             sent.count_is ∙ nothing.count_is,
@@ -97,13 +97,14 @@ module _ {M : Type 0} where
                   sent.puts j ∙ ap (λ (x : List Item). x ++ cond ((m == j) && true) (sent.item ∷ []) []) (nothing.puts j there)
                   ∙ ap (λ (b : Bool). puts_at j v.stops ++ cond b (sent.item ∷ []) []) (and_true (m == j));
             },
+            sent.waits,
           )
 
-      shut : (m : ℕ) → shut_at m new.stops ≡ true → shut_at m w.stops ≡ true
-      shut m e = let W : PassState M → Type 0 = λ x. shut_at m x.stops ≡ true in subst W (sym is) e
+      shut : (m : ℕ) → shut_at m new.stops ≡ true → waits_at m new.stops ≡ true → (shut_at m w.stops ≡ true) × (waits_at m w.stops ≡ true)
+      shut m e waits = let W : PassState M → Type 0 = λ x. (shut_at m x.stops ≡ true) × (waits_at m x.stops ≡ true) in subst W (sym is) (e, waits)
 
       go : (r : Result Sent BusError) → IfOk r (IsDelivered found bytes mid new) → IfErr r (λ e. (e ≡ errors.NoMemory) × Unrouted mid new) → MatchResult r (λ sent. Unicasts outbox_of to bytes v sent w) (λ e. IsUnsent outbox_of e v w)
-      go (Ok (Put n)) ok err = let done = put n ok.1 in (owner n ok.0, done.0, done.1, done.2)
-      go (Ok (Full n)) ok err = (not_put (full_unrouted n bytes mid new ok.1), owner n ok.0, shut n ok.2)
+      go (Ok (Put n)) ok err = let done = put n ok.1 in (owner n ok.0, done.0, done.1, done.2, done.3)
+      go (Ok (Full n)) ok err = let done = shut n ok.2 ok.1.waits in (not_put (full_unrouted n bytes mid new ok.1), owner n ok.0, done.0, done.1)
       go (Ok NoOwner) ok err = (not_put (unrouted_same mid new ok.1), nobody ok.0)
       go (Err e) ok err = inr (err.0, not_put err.1)

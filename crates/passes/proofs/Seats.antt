@@ -7,7 +7,7 @@ use Rattle.outbox.specs.Seated.{OutboxId}
 use Rattle.program_table.specs.Connections.{numbers_of, is_connected}
 use Rattle.program_table.specs.State.{State}
 use Rattle.routing.specs.SenderView.{RecipientView, StopView, SenderView}
-use Rattle.routing.specs.Stops.{stop_at, put_in, outbox_id, knows_shut, is_in, outbox_at, HasStop, AllHave, Lists, Keeps, Unrouted}
+use Rattle.routing.specs.Stops.{stop_at, put_in, outbox_id, knows_shut, waits_in, is_in, outbox_at, HasStop, AllHave, Lists, Keeps, Unrouted}
 use Rattle.routing.proofs.Routes.{kept_at}
 use Rattle.passes.specs.Routes.{IsOutboxOf}
 use Rattle.passes.specs.Seats.{KeepsThere, NothingPut}
@@ -55,14 +55,14 @@ in_at (x ∷ xs) (suc k) d lt = or_right (x == get_or xs k d) (is_in (get_or xs 
 
 -- a sender that did nothing
 pub all_kept : (v : SenderView) → Keeps [] v v
-all_kept v = record { origin_is = refl; stay = λ n outbox e. e; theirs = λ n outbox e. inl e; shut = λ n e. e; takes = λ n. refl }
+all_kept v = record { origin_is = refl; stay = λ n outbox e. e; theirs = λ n outbox e. inl e; shut = λ n e. e; waits = λ n e. e; takes = λ n. refl }
 
 pub none_put : (v : SenderView) → Unrouted v v
 none_put v = record { count_is = refl; puts = λ n. refl }
 
 module _ {M : Type 0} where
   pub keeps_same : (outbox_of : M → OutboxId) (s : State M) (v : SenderView) → KeepsThere outbox_of s v v
-  keeps_same outbox_of s v = record { origin_is = refl; stay = λ n outbox there e. e; theirs = λ n outbox e. inl e; shut = λ n there e. e }
+  keeps_same outbox_of s v = record { origin_is = refl; stay = λ n outbox there e. e; theirs = λ n outbox e. inl e; shut = λ n there e. e; waits = λ n there e. e }
 
   pub keeps_on : (outbox_of : M → OutboxId) (s : State M) (a b c : SenderView) → KeepsThere outbox_of s a b → KeepsThere outbox_of s b c → KeepsThere outbox_of s a c
   keeps_on outbox_of s a b c h k = record {
@@ -70,6 +70,7 @@ module _ {M : Type 0} where
     stay = λ n outbox there e. k.stay n outbox there (h.stay n outbox there e);
     theirs = λ n outbox e. pick n outbox (k.theirs n outbox e);
     shut = λ n there e. k.shut n there (h.shut n there e);
+    waits = λ n there e. k.waits n there (h.waits n there e);
   }
     where
       pick : (n : ℕ) (outbox : OutboxId) → (outbox_at n b.stops ≡ Some outbox) ⊎ IsOutboxOf outbox_of s n outbox → (outbox_at n a.stops ≡ Some outbox) ⊎ IsOutboxOf outbox_of s n outbox
@@ -91,6 +92,7 @@ module _ {M : Type 0} where
       stay = λ n outbox there h. ap outbox_id (same n there) ∙ h;
       theirs = λ n outbox h. inl (kept_outbox (is_in n numbers) (stop_at n old.stops) (stop_at n new.stops) outbox (left n) h);
       shut = λ n there h. ap knows_shut (same n there) ∙ h;
+      waits = λ n there h. ap waits_in (same n there) ∙ h;
     },
     record { count_is = ap (λ (v : SenderView). v.count) e; puts = λ n there. ap put_in (same n there) },
   )
@@ -108,6 +110,7 @@ module _ {M : Type 0} where
     stay = λ m outbox there e. k.stay m outbox e;
     theirs = λ m outbox e. pick m outbox (k.theirs m outbox e);
     shut = λ m there e. k.shut m e;
+    waits = λ m there e. k.waits m e;
   }
     where
       pick : (m : ℕ) (outbox : OutboxId) → (outbox_at m old.stops ≡ Some outbox) ⊎ Lists (r ∷ []) m outbox → (outbox_at m old.stops ≡ Some outbox) ⊎ IsOutboxOf outbox_of s m outbox
@@ -125,6 +128,7 @@ module _ {M : Type 0} where
     stay = λ m outbox there e. k.stay m outbox e;
     theirs = λ m outbox e. pick m outbox (k.theirs m outbox e);
     shut = λ m there e. k.shut m e;
+    waits = λ m there e. k.waits m e;
   }
     where
       pick : (m : ℕ) (outbox : OutboxId) → (outbox_at m old.stops ≡ Some outbox) ⊎ Lists [] m outbox → (outbox_at m old.stops ≡ Some outbox) ⊎ IsOutboxOf outbox_of s m outbox

@@ -62,6 +62,7 @@ module _ {M : Type 0} where
       stay = λ n outbox there e. k.stay n outbox there e;
       theirs = λ n outbox e. k.theirs n outbox e;
       shut = λ n there e. k.shut n there e;
+      waits = λ n there e. k.waits n there e;
       fits = let P : ℕ → Type 0 = λ o. AllFit o new.count new.stops in subst P k.origin_is fits;
     };
   }
@@ -91,6 +92,7 @@ module _ {M : Type 0} where
         rising = r.rising;
         listed = r.listed;
         again = λ n i e. r.again n i (shut n i e);
+        waits = r.waits;
       })
 
   -- what a broadcast came to

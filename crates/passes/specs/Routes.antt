@@ -9,7 +9,7 @@ use Rattle.program_table.specs.Connections.{is_connected, mailbox_of}
 use Rattle.program_table.specs.History.{after}
 use Rattle.program_table.specs.Recipients.{AreRecipients}
 use Rattle.program_table.specs.State.{State}
-use Rattle.routing.specs.Stops.{RisesFrom, puts_at, outbox_at, shut_at, is_in, is_put, AllFit}
+use Rattle.routing.specs.Stops.{RisesFrom, puts_at, outbox_at, shut_at, waits_at, all_written, is_in, is_put, AllFit}
 use Rattle.passes.specs.declared.error.BusError.{BusError}
 use Rattle.passes.specs.declared.error.BusError.TheVariants as errors
 use Rattle.passes.specs.declared.reading.Source.{Source}
@@ -29,12 +29,13 @@ module _ {M : Type 0} where
   is_there n w = is_connected n (after w.seen).connections
 
   -- What a pass keeps where it sends: of the connections that are there, each seat stays at its outbox, and what is
-  -- known to be shut stays so. A new seat is at the outbox of a connection that is there. Seats name the pass's
-  -- connection as the origin of their broadcasts, and none has a count above the pass's.
+  -- known to be shut stays so, and what waits to be written out still waits. A new seat is at the outbox of a connection
+  -- that is there. Seats name the pass's connection as the origin of their broadcasts, and none has a count above the pass's.
   pub record KeepsSeats (outbox_of : M → OutboxId) (v w : PassState M) : Type 0 where
     pub stay : (n : ℕ) (outbox : OutboxId) → is_there n w ≡ true → outbox_at n v.stops ≡ Some outbox → outbox_at n w.stops ≡ Some outbox
     pub theirs : (n : ℕ) (outbox : OutboxId) → outbox_at n w.stops ≡ Some outbox → (outbox_at n v.stops ≡ Some outbox) ⊎ IsOutboxOf outbox_of (after w.seen) n outbox
     pub shut : (n : ℕ) → is_there n w ≡ true → shut_at n v.stops ≡ true → shut_at n w.stops ≡ true
+    pub waits : (n : ℕ) → is_there n w ≡ true → waits_at n v.stops ≡ true → waits_at n w.stops ≡ true
     pub fits : AllFit w.connection w.count w.stops
 
   -- What it has sent, it has seen: a history that begins with what it had seen.
@@ -52,7 +53,8 @@ module _ {M : Type 0} where
 
   -- One broadcast more of the message of these bytes, to its recipients after what the pass has seen: it was put to each
   -- that didn't refuse it, and nothing was put anywhere else. One that refused is a recipient whose outbox is shut, and if
-  -- the seat knew that before, the recipient refused.
+  -- the seat knew that before, the recipient refused. What was put waits to be written out, and so does the outbox of one that
+  -- refused.
   pub record HasRouted (outbox_of : M → OutboxId) (source : Source) (bytes : List ℕ) (v : PassState M) (recipients refused : List ℕ) (w : PassState M) : Type 0 where
     pub sends : Sends outbox_of v w
     pub are : (m : Message) → Valid bytes m → AreRecipients (after w.seen) (sender_of source v.connection) m recipients
@@ -61,6 +63,7 @@ module _ {M : Type 0} where
     pub rising : RisesFrom 0 refused
     pub listed : (n : ℕ) → is_in n refused ≡ true → (is_in n recipients ≡ true) × (shut_at n w.stops ≡ true)
     pub again : (n : ℕ) → is_in n recipients ≡ true → shut_at n v.stops ≡ true → is_in n refused ≡ true
+    pub waits : (n : ℕ) → is_in n recipients ≡ true → waits_at n w.stops ≡ true
 
   -- one broadcast more, to recipients that the answer doesn't list
   abbrev pub HasRoutedToSome : (M → OutboxId) → Source → List ℕ → PassState M → List ℕ → PassState M → Type 0
@@ -76,3 +79,7 @@ module _ {M : Type 0} where
   abbrev pub IsUnrouted : (M → OutboxId) → BusError → PassState M → PassState M → Type 0
   IsUnrouted outbox_of error v w =
       ((error ≡ errors.Closed) × (w ≡ v)) ⊎ (((error ≡ errors.NoMemory) ⊎ ((error ≡ errors.Counts) × (v.count ≡ max_count))) × HasNotPut outbox_of v w)
+
+  -- nothing that the pass has put waits to be written out any more
+  abbrev pub after_writing : PassState M → PassState M
+  after_writing v = record v { stops = all_written v.stops }

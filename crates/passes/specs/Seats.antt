@@ -4,17 +4,18 @@ use Rattle.outbox.specs.Seated.{OutboxId}
 use Rattle.program_table.specs.Connections.{is_connected}
 use Rattle.program_table.specs.State.{State}
 use Rattle.routing.specs.SenderView.{SenderView}
-use Rattle.routing.specs.Stops.{is_in, puts_at, outbox_at, shut_at}
+use Rattle.routing.specs.Stops.{is_in, puts_at, outbox_at, shut_at, waits_at}
 use Rattle.passes.specs.Routes.{IsOutboxOf}
 
 module _ {M : Type 0} where
-  -- of the connections that are there, each seat stays at its outbox, and what is known to be shut stays so; a new seat is
-  -- at the outbox of such a connection
+  -- of the connections that are there, each seat stays at its outbox, what is known to be shut stays so, and what waits to be
+  -- written out still waits; a new seat is at the outbox of such a connection
   pub record KeepsThere (outbox_of : M → OutboxId) (s : State M) (old new : SenderView) : Type 0 where
     pub origin_is : new.origin ≡ old.origin
     pub stay : (n : ℕ) (outbox : OutboxId) → is_connected n s.connections ≡ true → outbox_at n old.stops ≡ Some outbox → outbox_at n new.stops ≡ Some outbox
     pub theirs : (n : ℕ) (outbox : OutboxId) → outbox_at n new.stops ≡ Some outbox → (outbox_at n old.stops ≡ Some outbox) ⊎ IsOutboxOf outbox_of s n outbox
     pub shut : (n : ℕ) → is_connected n s.connections ≡ true → shut_at n old.stops ≡ true → shut_at n new.stops ≡ true
+    pub waits : (n : ℕ) → is_connected n s.connections ≡ true → waits_at n old.stops ≡ true → waits_at n new.stops ≡ true
 
   -- nothing was put at the outboxes of those that are there, and no count is used
   pub record NothingPut (s : State M) (old new : SenderView) : Type 0 where

@@ -1,6 +1,6 @@
 // What calls of passes come to together.
 
-ghost use Rattle.std.specs.Prelude.{◌++◌, ◌∷◌, [], ℕ, List};
+ghost use Rattle.std.specs.Prelude.{◌≡◌, ◌++◌, ◌∷◌, [], false, true, ℕ, List};
 ghost use mathlib.Core.List.{IsPrefix};
 ghost use Rattle.program_table.specs.declared.command.Command.{Command};
 ghost use Rattle.program_table.specs.declared.command.Reply.{Reply};
@@ -8,7 +8,10 @@ ghost use Rattle.published.specs.Publication.{Publication};
 ghost use Rattle.passes.specs.declared.reading.Source.{Source};
 ghost use Rattle.passes.specs.Passes.{PassState};
 ghost use Rattle.passes.specs.Calls.{IsDone};
-ghost use Rattle.passes.specs.Routes.{HasRouted};
+ghost use Rattle.passes.specs.Routes.{HasRouted, is_there};
+ghost use Rattle.passes.specs.Unicasts.{Unicasts};
+ghost use Rattle.passes.specs.declared.unicasts.Sent.{Sent};
+ghost use Rattle.routing.specs.Stops.{puts_at, waits_at};
 
 use routing::Mailbox;
 
@@ -20,4 +23,13 @@ pub fn accepted_is_in_force<M: Mailbox>()
         → IsDone v before command reply w next → IsPrefix w.seen u.seen → IsDone u later other answer x after → IsPrefix (before.history ++ command ∷ []) later.history }
     ensures routed { (v w u x : PassState M) (before next : Publication M) (command : Command M) (reply : Reply) (source : Source) (bytes recipients refused : List ℕ)
         → IsDone v before command reply w next → IsPrefix w.seen u.seen → HasRouted M.outbox_of source bytes u recipients refused x → IsPrefix (before.history ++ command ∷ []) x.seen }
+{}
+
+/// What is put waits to be written out: where nothing waits at the outbox of a connection that is there, a broadcast or a message
+/// to a name has put nothing at it.
+pub fn what_is_put_waits<M: Mailbox>()
+    ensures broadcast { (v w : PassState M) (source : Source) (bytes recipients refused : List ℕ) (n : ℕ)
+        → HasRouted M.outbox_of source bytes v recipients refused w → is_there n w ≡ true → waits_at n w.stops ≡ false → puts_at n w.stops ≡ puts_at n v.stops }
+    ensures unicast { (v w : PassState M) (to bytes : List ℕ) (sent : Sent) (n : ℕ)
+        → Unicasts M.outbox_of to bytes v sent w → is_there n w ≡ true → waits_at n w.stops ≡ false → puts_at n w.stops ≡ puts_at n v.stops }
 {}

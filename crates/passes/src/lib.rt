@@ -25,7 +25,7 @@ mod unicasts;
 pub use control::Control;
 pub use error::BusError;
 pub use kept::KeptPasses;
-pub use laws::accepted_is_in_force;
+pub use laws::{accepted_is_in_force, what_is_put_waits};
 pub use pass::Pass;
 pub use reading::Source;
 pub use route_lists::RouteLists;

@@ -53,9 +53,10 @@ impl<B: Naming, M: Mailbox, R: Wait + Drop> Bus<B, M, R> {
         Bus::with_capacity(rt, alloc, key, opened, READERS, Capacity::standard())
     }
 
-    /// The same where there may be this much, with places for this many readers: one for each pass that has its own, and for each that is lent. Each command
-    /// costs a look at all of them, so a bus of many passes is quicker where each thread lends its one reader to the passes
-    /// that it serves.
+    /// The same where there may be this much, with places for this many readers: one for each pass that has its own, and for
+    /// each that is lent. Each command costs a look at all of them, so a bus of many passes is quicker where each thread lends
+    /// its one reader to the passes that it serves. A bus for which memory is refused while it is told how much there may be
+    /// has ended: its calls answer Closed.
     pub fn with_capacity(
         rt: R,
         alloc: Global,

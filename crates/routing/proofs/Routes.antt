@@ -1,5 +1,5 @@
 -- What taken seats and puts leave of a sender's stops.
-use Rattle.std.proofs.Common.{eqb-true, ◌∷◌, ℕ, ◌≡◌, ◌+◌, ◌≤◌, ◌==◌, ◌&&◌, ◌⊎◌, not, Bool, true, false, true≢false, cond, List, [], filter, refl, sym, ap, ◌∙◌, subst, arith, inl, inr, eq-eqb, append-nil, ◌++◌, Option, Some, None, IfSome}
+use Rattle.std.proofs.Common.{eqb-true, ◌∷◌, ℕ, ◌≡◌, ◌+◌, ◌≤◌, ◌==◌, ◌&&◌, ◌⊎◌, not, Bool, true, false, true≢false, cond, List, [], filter, refl, sym, ap, ◌∙◌, subst, arith, inl, inr, eq-eqb, append-nil, ◌++◌, Option, Some, None, IfSome, option_map}
 use Rattle.outbox.specs.Items.{Item}
 use Rattle.outbox.specs.declared.rule.SeatView.{SeatView}
 use Rattle.outbox.specs.Counts.{AreOf, count_of, counts_of, last_of}
@@ -7,7 +7,7 @@ use Rattle.outbox.specs.Seated.{OutboxId}
 use Rattle.outbox.specs.Views.{Follows, after_put}
 use Rattle.outbox.proofs.Rising.{counts_append, are_of_snoc, last_snoc}
 use Rattle.routing.specs.SenderView.{RecipientView, StopView, SenderView}
-use Rattle.routing.specs.Stops.{stop_at, put_in, taken_in, outbox_id, knows_shut, puts_at, outbox_at, shut_at, Fits, AllFit, is_in, Lists, Keeps, Routed, SentTo, Unrouted}
+use Rattle.routing.specs.Stops.{stop_at, put_in, taken_in, outbox_id, knows_shut, waits_in, puts_at, outbox_at, shut_at, waits_at, written, all_written, Fits, AllFit, is_in, Lists, Keeps, Routed, SentTo, Unrouted}
 use Rattle.routing.specs.Puts.{TakenAt, SeatsTaken, PutAt, RoutedAt, PutTo, RoutedTo, PutOnce}
 use Rattle.routing.proofs.Puts.{put_once}
 
@@ -35,6 +35,10 @@ taken_theirs recipients n None (Some t) outbox h e =
 taken_shut : (recipients : List RecipientView) (n : ℕ) (o p : Option StopView) → TakenAt recipients n o p → knows_shut o ≡ true → knows_shut p ≡ true
 taken_shut recipients n (Some s) p h e = ap knows_shut h ∙ e
 taken_shut recipients n None p h e = absurd (true≢false (sym e))
+
+taken_waits : (recipients : List RecipientView) (n : ℕ) (o p : Option StopView) → TakenAt recipients n o p → waits_in o ≡ true → waits_in p ≡ true
+taken_waits recipients n (Some s) p h e = ap waits_in h ∙ e
+taken_waits recipients n None p h e = absurd (true≢false (sym e))
 
 taken_fits : (recipients : List RecipientView) (n origin count : ℕ) (o p : Option StopView) → TakenAt recipients n o p → Fits origin count o → Fits origin count p
 taken_fits recipients n origin count (Some s) p h f = let P : Option StopView → Type 0 = λ x. Fits origin count x in subst P (sym h) f
@@ -71,6 +75,15 @@ not_false false e = absurd (true≢false e)
 routed_shut : (item : Item) (r f : Bool) (o p : Option StopView) → RoutedAt item r f o p → knows_shut o ≡ true → knows_shut p ≡ true
 routed_shut item false f o p h e = ap knows_shut h.1 ∙ e
 routed_shut item true f o p h e = ap knows_shut h.3 ∙ (h.4.shut (ap knows_shut (sym h.2) ∙ e)).1
+
+-- who got a put, or refused one, has to be written out
+routed_waiting : (item : Item) (r f : Bool) (o p : Option StopView) → RoutedAt item r f o p → r ≡ true → waits_in p ≡ true
+routed_waiting item false f o p h is = absurd (true≢false (sym is))
+routed_waiting item true f o p h is = ap waits_in h.3 ∙ h.4.waits
+
+routed_waits : (item : Item) (r f : Bool) (o p : Option StopView) → RoutedAt item r f o p → waits_in o ≡ true → waits_in p ≡ true
+routed_waits item false f o p h e = ap waits_in h.1 ∙ e
+routed_waits item true f o p h e = routed_waiting item true f o p h refl
 
 pub routed_again : (item : Item) (r f : Bool) (o p : Option StopView) → RoutedAt item r f o p → r ≡ true → knows_shut o ≡ true → f ≡ true
 routed_again item false f o p h is e = absurd (true≢false (sym is))
@@ -152,6 +165,7 @@ taken_keeps newcomers old new is taken = record {
   stay = λ n outbox e. taken_stay newcomers n (stop_at n old.stops) (stop_at n new.stops) outbox (taken n) e;
   theirs = λ n outbox e. taken_theirs newcomers n (stop_at n old.stops) (stop_at n new.stops) outbox (taken n) e;
   shut = λ n e. taken_shut newcomers n (stop_at n old.stops) (stop_at n new.stops) (taken n) e;
+  waits = λ n e. taken_waits newcomers n (stop_at n old.stops) (stop_at n new.stops) (taken n) e;
   takes = λ n. taken_takes newcomers n (stop_at n old.stops) (stop_at n new.stops) (taken n);
 }
 
@@ -168,6 +182,7 @@ each_keeps item r f old new is each = record {
   stay = λ n outbox e. same n ∙ e;
   theirs = λ n outbox e. inl (sym (same n) ∙ e);
   shut = λ n e. routed_shut item (r n) (f n) (stop_at n old.stops) (stop_at n new.stops) (each n) e;
+  waits = λ n e. routed_waits item (r n) (f n) (stop_at n old.stops) (stop_at n new.stops) (each n) e;
   takes = λ n. routed_takes item (r n) (f n) (stop_at n old.stops) (stop_at n new.stops) (each n);
 }
   where
@@ -194,6 +209,8 @@ sent_to m bytes item put old new same is h = record {
   puts = λ n.
       routed_put item (m == n) ((m == n) && not put) (stop_at n old.stops) (stop_at n new.stops) (put_once item m put old.stops new.stops h.change n)
       ∙ ap (λ (b : Bool). puts_at n old.stops ++ cond b (item ∷ []) []) (both_not (m == n) put);
+  waits =
+      routed_waiting item (m == m) ((m == m) && not put) (stop_at m old.stops) (stop_at m new.stops) (put_once item m put old.stops new.stops h.change m) (eq-eqb m m refl);
 }
 
 pub routed : (bytes recipients refused : List ℕ) (old new : SenderView) → RoutedTo bytes recipients refused old new → Routed bytes recipients refused old new
@@ -206,6 +223,7 @@ routed bytes recipients refused old new h = record {
   rising = h.change.rising;
   listed = λ n e. routed_listed h.item (is_in n recipients) (is_in n refused) (stop_at n old.stops) (stop_at n new.stops) (h.change.each n) e;
   again = λ n e shut. routed_again h.item (is_in n recipients) (is_in n refused) (stop_at n old.stops) (stop_at n new.stops) (h.change.each n) e shut;
+  waits = λ n e. routed_waiting h.item (is_in n recipients) (is_in n refused) (stop_at n old.stops) (stop_at n new.stops) (h.change.each n) e;
 }
 
 -- an outbox that refuses a message is shut, and one that is known to be shut refuses it
@@ -245,3 +263,28 @@ kept_fit recipients origin count stops fits n =
     pick : (b : Bool) → Fits origin count (cond b (stop_at n stops) None)
     pick true = fits n
     pick false = tt
+
+-- each stop is as it was, but that nothing waits there
+written_at : (n : ℕ) (stops : List StopView) → stop_at n (all_written stops) ≡ option_map written (stop_at n stops)
+written_at n [] = refl
+written_at n (s ∷ ss) = pick (s.recipient == n) (written_at n ss)
+  where
+    pick : (b : Bool) → stop_at n (all_written ss) ≡ option_map written (stop_at n ss) → cond b (Some (written s)) (stop_at n (all_written ss)) ≡ option_map written (cond b (Some s) (stop_at n ss))
+    pick true e = refl
+    pick false e = e
+
+pub written_fit : (origin count : ℕ) (stops : List StopView) → AllFit origin count stops → AllFit origin count (all_written stops)
+written_fit origin count stops fits n =
+    let P : Option StopView → Type 0 = λ o. Fits origin count o in
+    subst P (sym (written_at n stops)) (still (stop_at n stops) (fits n))
+  where
+    still : (o : Option StopView) → Fits origin count o → Fits origin count (option_map written o)
+    still None f = tt
+    still (Some s) f = f
+
+pub none_waits : (n : ℕ) (stops : List StopView) → waits_at n (all_written stops) ≡ false
+none_waits n stops = ap waits_in (written_at n stops) ∙ nothing (stop_at n stops)
+  where
+    nothing : (o : Option StopView) → waits_in (option_map written o) ≡ false
+    nothing None = refl
+    nothing (Some s) = refl

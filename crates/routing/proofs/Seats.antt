@@ -12,14 +12,14 @@ taken_same recipients n None = tt
 taken_same recipients n (Some s) = refl
 
 -- a new stop after the others is this recipient's, where it had none
-pub new_taken : (r : RecipientView) (t : StopView) (old : List StopView) → t.recipient ≡ r.number → t.outbox ≡ r.outbox → t.seat.view ≡ blank → SeatsTaken (r ∷ []) old (old ++ t ∷ [])
-new_taken r t old is at new n =
+pub new_taken : (r : RecipientView) (t : StopView) (old : List StopView) → t.recipient ≡ r.number → t.outbox ≡ r.outbox → t.seat.view ≡ blank → t.is_waiting ≡ false → SeatsTaken (r ∷ []) old (old ++ t ∷ [])
+new_taken r t old is at new none n =
     let P : Option StopView → Type 0 = λ o. TakenAt (r ∷ []) n (stop_at n old) o in
     subst P (sym (find-append (is_for n) old (t ∷ []))) (pick (stop_at n old) (t.recipient == n) refl)
   where
     pick : (o : Option StopView) (b : Bool) → (t.recipient == n) ≡ b → TakenAt (r ∷ []) n o (option_or o (cond b (Some t) None))
     pick (Some s) b e = refl
-    pick None true e = (inl (sym is ∙ eqb-true t.recipient n e, sym at), new)
+    pick None true e = (inl (sym is ∙ eqb-true t.recipient n e, sym at), new, none)
     pick None false e = tt
 
 pub new_has : (n : ℕ) (t : StopView) (old : List StopView) → t.recipient ≡ n → HasStop n (old ++ t ∷ [])

@@ -9,7 +9,7 @@ use Rattle.routing.specs.Stops.{stop_at, is_in, RisesFrom, Lists}
 abbrev pub TakenAt : List RecipientView → ℕ → Option StopView → Option StopView → Type 0
 TakenAt recipients n (Some s) new = new ≡ Some s
 TakenAt recipients n None None = Unit {0}
-TakenAt recipients n None (Some t) = Lists recipients n t.outbox × (t.seat.view ≡ blank)
+TakenAt recipients n None (Some t) = Lists recipients n t.outbox × (t.seat.view ≡ blank) × (t.is_waiting ≡ false)
 
 abbrev pub SeatsTaken : List RecipientView → List StopView → List StopView → Type 0
 SeatsTaken recipients old new = (n : ℕ) → TakenAt recipients n (stop_at n old) (stop_at n new)
@@ -21,6 +21,7 @@ pub record PutThere (item : Item) (put : Bool) (old new : StopView) : Type 0 whe
   pub view : new.seat.view ≡ cond put (after_put old.seat.view item) old.seat.view
   pub full : put ≡ false → new.seat.knows_shut ≡ true
   pub shut : old.seat.knows_shut ≡ true → (put ≡ false) × (new.seat.knows_shut ≡ true)
+  pub waits : new.is_waiting ≡ true
 
 -- the recipient's stop changes so, and no other
 pub record PutAt (recipient : ℕ) (item : Item) (put : Bool) (old new : List StopView) : Type 0 where

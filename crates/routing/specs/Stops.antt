@@ -1,5 +1,5 @@
 -- Which stops a sender has, what their seats know, and what a call of the sender changes (own).
-use Rattle.std.specs.Prelude.{ℕ, ◌≡◌, ◌⊎◌, ◌≤◌, ◌+◌, ◌++◌, ◌==◌, ◌&&◌, Bool, true, false, not, cond, Option, Some, None, IsSome, IfSome, List, [], ◌∷◌, find}
+use Rattle.std.specs.Prelude.{ℕ, ◌≡◌, ◌⊎◌, ◌≤◌, ◌+◌, ◌++◌, ◌==◌, ◌&&◌, Bool, true, false, not, cond, Option, Some, None, IsSome, IfSome, List, [], ◌∷◌, find, map}
 use Rattle.std.specs.List.{list_any}
 use Rattle.outbox.specs.Items.{Item}
 use Rattle.outbox.specs.Counts.{Put, AreOf, counts_of, last_of}
@@ -43,6 +43,10 @@ abbrev pub knows_shut : Option StopView → Bool
 knows_shut None = false
 knows_shut (Some s) = s.seat.knows_shut
 
+abbrev pub waits_in : Option StopView → Bool
+waits_in None = false
+waits_in (Some s) = s.is_waiting
+
 -- what the seat at this recipient's outbox has put, in order: nothing if there is no seat
 abbrev pub puts_at : ℕ → List StopView → List Item
 puts_at n stops = put_in (stop_at n stops)
@@ -58,6 +62,18 @@ outbox_at n stops = outbox_id (stop_at n stops)
 -- whether the seat at this recipient's outbox knows that the outbox is shut
 abbrev pub shut_at : ℕ → List StopView → Bool
 shut_at n stops = knows_shut (stop_at n stops)
+
+-- whether what was put at this recipient's outbox waits to be written out
+abbrev pub waits_at : ℕ → List StopView → Bool
+waits_at n stops = waits_in (stop_at n stops)
+
+-- the outbox is written out
+abbrev pub written : StopView → StopView
+written s = record s { is_waiting = false }
+
+-- each outbox is
+abbrev pub all_written : List StopView → List StopView
+all_written stops = map written stops
 
 -- the seat has put broadcasts of this origin alone, and the count of the last is no greater
 abbrev pub Fits : ℕ → ℕ → Option StopView → Type 0
@@ -84,17 +100,18 @@ Lists [] n outbox = ⊥
 Lists (r ∷ rs) n outbox = ((r.number ≡ n) × (r.outbox ≡ outbox)) ⊎ Lists rs n outbox
 
 -- What calls of a sender keep: each seat stays at its outbox, a new one is at a newcomer's, what is known to be shut
--- stays so, and nothing is taken
+-- stays so, what waits to be written out still waits, and nothing is taken
 pub record Keeps (newcomers : List RecipientView) (old new : SenderView) : Type 0 where
   pub origin_is : new.origin ≡ old.origin
   pub stay : (n : ℕ) (outbox : OutboxId) → outbox_at n old.stops ≡ Some outbox → outbox_at n new.stops ≡ Some outbox
   pub theirs : (n : ℕ) (outbox : OutboxId) → outbox_at n new.stops ≡ Some outbox → (outbox_at n old.stops ≡ Some outbox) ⊎ Lists newcomers n outbox
   pub shut : (n : ℕ) → shut_at n old.stops ≡ true → shut_at n new.stops ≡ true
+  pub waits : (n : ℕ) → waits_at n old.stops ≡ true → waits_at n new.stops ≡ true
   pub takes : (n : ℕ) → takes_at n new.stops ≡ takes_at n old.stops
 
 -- One broadcast more, with these bytes. At a recipient that isn't listed just that item was put; at a listed one and at
 -- every other outbox nothing was. A listed one is a recipient whose outbox is shut, and if the seat knew that before,
--- the recipient is listed
+-- the recipient is listed. Each recipient's outbox waits to be written out, a listed one's too
 pub record Routed (bytes recipients refused : List ℕ) (old new : SenderView) : Type 0 where
   pub count_is : new.count ≡ old.count + 1
   pub item : Item
@@ -104,19 +121,21 @@ pub record Routed (bytes recipients refused : List ℕ) (old new : SenderView) :
   pub rising : RisesFrom 0 refused
   pub listed : (n : ℕ) → is_in n refused ≡ true → (is_in n recipients ≡ true) × (shut_at n new.stops ≡ true)
   pub again : (n : ℕ) → is_in n recipients ≡ true → shut_at n old.stops ≡ true → is_in n refused ≡ true
+  pub waits : (n : ℕ) → is_in n recipients ≡ true → waits_at n new.stops ≡ true
 
 abbrev pub is_sent : Sent → Bool
 is_sent sent.Put = true
 is_sent sent.Full = false
 
 -- A message that isn't a broadcast, with these bytes, was put at this recipient's outbox, or nowhere, and nothing else
--- was put. No count is used
+-- was put. The outbox waits to be written out. No count is used
 pub record SentTo (recipient : ℕ) (bytes : List ℕ) (put : Bool) (old new : SenderView) : Type 0 where
   pub count_is : new.count ≡ old.count
   pub item : Item
   pub bytes_are : item.bytes ≡ bytes
   pub mark_is : item.mark ≡ None
   pub puts : (n : ℕ) → puts_at n new.stops ≡ puts_at n old.stops ++ cond ((recipient == n) && put) (item ∷ []) []
+  pub waits : waits_at recipient new.stops ≡ true
 
 -- Nothing was put, and no count is used
 pub record Unrouted (old new : SenderView) : Type 0 where

@@ -1,7 +1,7 @@
 // Senders.
 
-ghost use Rattle.std.specs.Prelude.{◌≡◌, ◌<◌, ◌≤◌, [], ◌∷◌, ◌↔◌, true, IfOk, OnOk, OnErr, None, filter, is_some, length};
-ghost use Rattle.routing.specs.Stops.{RisesFrom, is_in, stop_at, shut_at, HasStop, AllHave, AllFit, Keeps, Routed, SentTo, Unrouted, is_sent};
+ghost use Rattle.std.specs.Prelude.{◌≡◌, ◌<◌, ◌≤◌, [], ◌∷◌, ◌↔◌, ℕ, false, true, IfOk, OnOk, OnErr, None, filter, is_some, length};
+ghost use Rattle.routing.specs.Stops.{RisesFrom, all_written, is_in, stop_at, shut_at, waits_at, HasStop, AllHave, AllFit, Keeps, Routed, SentTo, Unrouted, is_sent};
 ghost use Rattle.routing.specs.Puts.{RoutedTo, PutOnce};
 
 use crate::error::RouteError;
@@ -236,7 +236,8 @@ impl<C: Mailbox> Sender<C> {
 
     /// Writes out each outbox in which something was put since it last was written out. Nothing is held any more.
     pub fn push_out<R: Wait>(&mut self, rt: &R)
-        ensures { self.new ≡ self.old }
+        ensures written { self.new ≡ record self.old { stops = all_written self.old.stops } }
+        ensures none { (n : ℕ) → waits_at n self.new.stops ≡ false }
     {
         self.release();
         push_out_all(rt, self.stops.as_mut_slice());

@@ -1,9 +1,9 @@
 // A sender's seats at the outboxes of its recipients.
 
-ghost use Rattle.std.specs.Prelude.{◌≡◌, ◌+◌, ◌<◌, ◌≤◌, ◌++◌, ◌∷◌, [], ℕ, cond, IfOk, OnOk, IfSome, IsSomeAnd, filter, length, position};
+ghost use Rattle.std.specs.Prelude.{◌≡◌, ◌+◌, ◌<◌, ◌≤◌, ◌++◌, ◌∷◌, [], ℕ, cond, false, IfOk, OnOk, IfSome, IsSomeAnd, filter, length, position};
 ghost use Rattle.outbox.specs.Views.{Follows, blank};
 ghost use Rattle.routing.specs.SenderView.{StopView};
-ghost use Rattle.routing.specs.Stops.{RisesFrom, is_for, is_in, stop_at, HasStop, AllHave};
+ghost use Rattle.routing.specs.Stops.{RisesFrom, is_for, is_in, stop_at, written, all_written, HasStop, AllHave};
 ghost use Rattle.routing.specs.Puts.{PutThere, PutAt, PutTo, SeatsTaken};
 
 use crate::mailbox::Mailbox;
@@ -31,7 +31,7 @@ impl<C> Model for Stop<C> {
 
     ghost Value = { StopView };
 
-    ghost view = { λ s. record { recipient = s.recipient; outbox = s.outbox; seat = s.seat } };
+    ghost view = { λ s. record { recipient = s.recipient; outbox = s.outbox; seat = s.seat; is_waiting = s.is_waiting } };
 
     ghost invariant = { λ s. s.seat.outbox ≡ s.outbox };
 }
@@ -56,7 +56,7 @@ impl<C> Stop<C> {
 impl<C: Mailbox> Stop<C> {
     /// A new seat there.
     pub(crate) fn at(recipient: Recipient<C>) -> Result<Stop<C>, AllocError>
-        ensures { IfOk result (λ s. (s.recipient ≡ recipient.number) × (s.outbox ≡ recipient.outbox) × (s.seat.view ≡ blank)) }
+        ensures { IfOk result (λ s. (s.recipient ≡ recipient.number) × (s.outbox ≡ recipient.outbox) × (s.seat.view ≡ blank) × (s.is_waiting ≡ false)) }
     {
         let (number, carrier) = recipient.into_parts();
         let outbox = carrier.outbox().share()?;
@@ -72,7 +72,7 @@ impl<C: Mailbox> Stop<C> {
 
     /// Writes the outbox out, where something was put since it last was.
     pub(crate) fn push_out<R: Wait>(&mut self, rt: &R)
-        ensures { self.new ≡ self.old }
+        ensures { self.new ≡ written self.old }
     {
         if self.is_waiting {
             self.is_waiting = false;
@@ -97,22 +97,6 @@ pub(crate) fn put_at<C, R: Wait>(rt: &R, stops: &mut [Stop<C>], recipient: u64, 
         Some(place) => stops[place].put(rt, item),
         None => unreachable!(),
     }
-}
-
-/// Puts the next share at the recipient's outbox, and says whether it was put.
-pub(crate) fn put_next<C, R: Wait>(
-    rt: &R,
-    stops: &mut [Stop<C>],
-    recipient: u64,
-    shares: &mut Shares,
-) -> bool
-    requires left { 0 < shares.old.left }
-    requires follows { IsSomeAnd (stop_at recipient stops.old) (λ s. Follows s.seat.view.put shares.old.message.mark) }
-    ensures put { PutAt recipient shares.old.message result stops.old stops.new }
-    ensures left { (shares.new.left + 1 ≡ shares.old.left) × (shares.new.message ≡ shares.old.message) }
-{
-    let item = shares.next();
-    put_at(rt, stops, recipient, item)
 }
 
 /// Takes a seat at the recipient's outbox, where the sender has none there.
@@ -159,14 +143,14 @@ pub(crate) fn put_all<C, R: Wait>(
     ensures left { (shares.new.left ≡ 0) × (shares.new.message ≡ shares.old.message) }
 {
     for recipient in recipients {
-        let put = put_next(rt, stops, *recipient, shares);
+        let put = put_at(rt, stops, *recipient, shares.next());
         note(refused, *recipient, put);
     }
 }
 
 /// Writes out each outbox in which something was put since it last was written out.
 pub(crate) fn push_out_all<C: Mailbox, R: Wait>(rt: &R, stops: &mut [Stop<C>])
-    ensures { stops.new ≡ stops.old }
+    ensures { stops.new ≡ all_written stops.old }
 {
     for place in 0..stops.len() {
         stops[place].push_out(rt);

@@ -5,8 +5,8 @@ use Rattle.program_table.specs.declared.command.Command.{Command}
 use Rattle.passes.proofs.laws.accepted_is_in_force.Goals as goal
 
 -- what was seen begins with the command and all before it, and so does what comes later
-later_too : {M : Type 0} (told seen learned last : List (Command M)) → told ≡ seen → IsPrefix seen learned → IsPrefix learned last → IsPrefix told last
-later_too {M = M} told seen learned last is learns goes_on =
+later_too : {M : Type 0} (past seen learned last : List (Command M)) → past ≡ seen → IsPrefix seen learned → IsPrefix learned last → IsPrefix past last
+later_too {M = M} past seen learned last is learns goes_on =
     subst (λ (l : List (Command M)). IsPrefix l last) (sym is) (prefix_trans seen learned last learns goes_on)
 
 pub returns-clause-asked : goal.returns-clause-asked

@@ -1,0 +1,30 @@
+use Rattle.std.proofs.Common.{◌≡◌, ◌==◌, ◌&&◌, ◌++◌, [], ◌∷◌, ℕ, Bool, true, false, true≢false, not, cond, List, append-nil, eqb-true, refl, sym, ◌∙◌, subst}
+use Rattle.outbox.specs.Items.{Item}
+use Rattle.routing.specs.SenderView.{StopView}
+use Rattle.routing.specs.Stops.{is_in, is_put, puts_at, waits_at}
+use Rattle.passes.specs.declared.unicasts.Sent.TheVariants.{Put, NoOwner, Full}
+use Rattle.passes.proofs.laws.what_is_put_waits.Goals as goal
+
+-- nothing is put at one for whom nothing waits
+nothing : (listed refuses : Bool) (waits : Bool) (old new : List Item) (item : Item) → (listed ≡ true → waits ≡ true) → waits ≡ false → new ≡ old ++ cond (listed && not refuses) (item ∷ []) [] → new ≡ old
+nothing true refuses waits old new item if_listed none is = absurd (true≢false (sym (if_listed refl) ∙ none))
+nothing false refuses waits old new item if_listed none is = is ∙ append-nil old
+
+plain : (its : Bool) (waits : Bool) (old new : List Item) (item : Item) → (its ≡ true → waits ≡ true) → waits ≡ false → new ≡ old ++ cond its (item ∷ []) [] → new ≡ old
+plain true waits old new item if_its none is = absurd (true≢false (sym (if_its refl) ∙ none))
+plain false waits old new item if_its none is = is ∙ append-nil old
+
+pub returns-clause-broadcast : goal.returns-clause-broadcast
+returns-clause-broadcast g c v w source bytes recipients refused n routed there none =
+    nothing (is_in n recipients) (is_in n refused) (waits_at n w.stops) (puts_at n v.stops) (puts_at n w.stops) routed.put.item (routed.waits n) none (routed.put.puts n there)
+
+-- the owner's outbox waits
+its : (m n : ℕ) (stops : List StopView) → waits_at m stops ≡ true → (m == n) ≡ true → waits_at n stops ≡ true
+its m n stops waits is = let P : ℕ → Type 0 = λ x. waits_at x stops ≡ true in subst P (eqb-true m n is) waits
+
+pub returns-clause-unicast : goal.returns-clause-unicast
+returns-clause-unicast g c v w to bytes (Put m) n sent there none =
+    let put = sent.3 in
+    plain (m == n) (waits_at n w.stops) (puts_at n v.stops) (puts_at n w.stops) put.item (its m n w.stops sent.4) none (put.puts n there)
+returns-clause-unicast g c v w to bytes (Full m) n sent there none = sent.0.puts n there
+returns-clause-unicast g c v w to bytes NoOwner n sent there none = sent.0.puts n there
