@@ -49,9 +49,9 @@ module _ {M : Type 0} where
 
   -- a message of the bus to one connection closes no pass and opens none
   unicast_closes_none : (outbox_of : M → OutboxId) (to bytes : List ℕ) (v w : PassState M) (s : Sent) → Unicasts outbox_of to bytes v s w → w.is_closed ≡ v.is_closed
-  unicast_closes_none outbox_of to bytes v w (sent.Put n) (owner, sends, count, put) = ap (λ (p : PassState M). p.is_closed) sends.same
+  unicast_closes_none outbox_of to bytes v w (sent.Put n) (owner, sends, count, put, waits) = ap (λ (p : PassState M). p.is_closed) sends.same
   unicast_closes_none outbox_of to bytes v w sent.NoOwner (unput, nobody) = ap (λ (p : PassState M). p.is_closed) unput.sends.same
-  unicast_closes_none outbox_of to bytes v w (sent.Full n) (unput, owner, shut) = ap (λ (p : PassState M). p.is_closed) unput.sends.same
+  unicast_closes_none outbox_of to bytes v w (sent.Full n) (unput, owner, shut, waits) = ap (λ (p : PassState M). p.is_closed) unput.sends.same
 
   told_closes_none : (outbox_of : M → OutboxId) (asked : Asked) (to : List ℕ) (v w : PassState M) (result : Result (Unit {0}) AnswerError) → IsTold outbox_of asked to v result w → w.is_closed ≡ v.is_closed
   told_closes_none outbox_of asked to v w (Ok x) (bytes, s, are, unicast) = unicast_closes_none outbox_of to bytes v w s unicast

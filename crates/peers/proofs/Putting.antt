@@ -1,5 +1,5 @@
 -- What is put to a client.
-use Rattle.std.proofs.Common.{◌≡◌, ℕ, Bool, true, false, not, List, [], ◌∷◌, ◌++◌, Some, Result, Ok, Err, ⊎_elim, inr, refl, sym, ap, subst, ◌∙◌, true≢false, Bor}
+use Rattle.std.proofs.Common.{◌≡◌, ℕ, Bool, true, false, not, List, [], ◌∷◌, Some, Result, Ok, Err, ⊎_elim, inr, refl, sym, ap, subst, ◌∙◌, true≢false, Bor}
 use Rattle.signature.specs.DataType.{array, basic}
 use Rattle.message_value.specs.Value.{Values, elements, text, one_value}
 use Rattle.message_build.specs.Adding.{string_values, with_argument}
@@ -16,7 +16,7 @@ use Rattle.peers.specs.declared.identity.Identity.{Identity}
 use Rattle.peers.specs.declared.refused.Refused.{Refused}
 use Rattle.peers.specs.declared.refused.Refused.TheVariants.{Error}
 use Rattle.peers.specs.declared.request.Request.{Request}
-use Rattle.peers.specs.Answers.{after_refusal, IsPut, IsEither, AnswersIf, IsAnswered, IsRefused, after_serial, fault_asked, reply_with, text_with, texts_with, text_values, fault_with}
+use Rattle.peers.specs.Answers.{after_own_put, after_refusal, IsPut, IsEither, AnswersIf, IsAnswered, IsRefused, after_serial, fault_asked, reply_with, text_with, texts_with, text_values, fault_with}
 use Rattle.peers.specs.Holdings.{HoldingsState}
 use Rattle.peers.specs.LentTexts.{lent_texts}
 use Rattle.peers.specs.PeerState.{OwnState, PeerState}
@@ -50,7 +50,7 @@ not_false false e = absurd (true≢false e)
 module _ {M : Type 0} where
   -- what is put by a peer that is seen as another record of the same, and whose bytes are so for another reason
   pub put_as : (P Q : List ℕ → Type 0) (u v : PeerState M) (result : Result (Unit {0}) AnswerError) (w : PeerState M) → u ≡ v → ((bytes : List ℕ) → P bytes → Q bytes) → IsPut P u result w → IsPut Q v result w
-  put_as P Q u v (Ok x) w e f (item, mark, p, is) = (item, mark, f item.bytes p, is ∙ ap (λ (s : PeerState M). record s { own = record s.own { put = s.own.put ++ item ∷ [] } }) e)
+  put_as P Q u v (Ok x) w e f (item, mark, p, is) = (item, mark, f item.bytes p, is ∙ ap (λ (s : PeerState M). record s { own = after_own_put item s.own }) e)
   put_as P Q u v (Err x) w e f is = is ∙ ap (λ (s : PeerState M). record s { own = after_refusal x s.own }) e
 
   no_memory_if : (wants : Bool) (request : Request) (asked : Asked) (v : PeerState M) (result : Result (Unit {0}) AnswerError) (w : PeerState M) → AnswersIf wants request (fault_asked v request names.NoMemory) v result w → AnswersIf wants request asked v result w

@@ -20,10 +20,14 @@ use Rattle.peers.specs.declared.refused.Refused.TheVariants.{Error, Ended}
 use Rattle.peers.specs.PeerState.{OwnState, PeerState, name_of}
 use Rattle.peers.specs.Serials.{serial_after}
 
--- what is known of an outbox after a put that ended so: one for which there is no room shuts it
+-- what is known of an outbox after a put that ended so: one for which there is no room shuts it, and has it written out
 abbrev pub after_refusal : AnswerError → OwnState → OwnState
-after_refusal Slow own = record own { knows_shut = true }
+after_refusal Slow own = record own { knows_shut = true; is_waiting = true }
 after_refusal _ own = own
+
+-- after a put of this message
+abbrev pub after_own_put : Item → OwnState → OwnState
+after_own_put item own = record own { put = own.put ++ item ∷ []; is_waiting = true }
 
 -- that there is no room is said only of an outbox that is known to be shut
 abbrev pub IsShutIf : AnswerError → OwnState → Type 0
@@ -66,7 +70,7 @@ module _ {M : Type 0} where
 
   -- One message more was put to the client, whose bytes are so; or nothing was put.
   abbrev pub IsPut : (List ℕ → Type 0) → PeerState M → Result (Unit {0}) AnswerError → PeerState M → Type 0
-  IsPut P v (Ok _) w = (item : Item) × (item.mark ≡ None) × P item.bytes × (w ≡ record v { own = record v.own { put = v.own.put ++ item ∷ [] } })
+  IsPut P v (Ok _) w = (item : Item) × (item.mark ≡ None) × P item.bytes × (w ≡ record v { own = after_own_put item v.own })
   IsPut P v (Err error) w = w ≡ record v { own = after_refusal error v.own }
 
   -- one serial is used for a message of the bus

@@ -9,6 +9,7 @@ use Rattle.router.specs.Command.TheVariants.{DropOne, Close}
 use Rattle.router.specs.Publication.{Publication}
 use Rattle.router.specs.Reply.{Reply}
 use Rattle.router.specs.Reply.TheVariants as replies
+use Rattle.router.specs.Routes.{after_writing}
 use Rattle.peers.specs.declared.error.AnswerError.{AnswerError}
 use Rattle.peers.specs.declared.leaving.Giving.{Giving}
 use Rattle.peers.specs.declared.leaving.Giving.TheVariants as givings
@@ -64,9 +65,10 @@ module _ {M : Type 0} where
   ClosesIf outbox_of false v leaving w = (leaving ≡ Refused) × (w ≡ v)
 
   -- A peer leaves: it gives up its names one after the other, each change announced, closes its pass, announces that its own
-  -- name is gone, and tells those who wait for its replies, in this order, and does nothing else.
+  -- name is gone, and tells those who wait for its replies, in this order, and does nothing else. Then nothing that it has put
+  -- to others waits to be written out.
   abbrev pub Leaves : (M → OutboxId) → PeerState M → Leaving → PeerState M → Type 0
-  Leaves outbox_of v leaving w = (cleared : Bool) × (mid : PeerState M) × AreGivenUp outbox_of cleared v mid × ClosesIf outbox_of cleared mid leaving w
+  Leaves outbox_of v leaving w = (cleared : Bool) × (mid last : PeerState M) × AreGivenUp outbox_of cleared v mid × ClosesIf outbox_of cleared mid leaving last × (w ≡ record last { pass = after_writing last.pass })
 
   -- a peer that has left has closed its pass
   abbrev pub HasLeft : Leaving → PeerState M → Type 0

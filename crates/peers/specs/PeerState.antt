@@ -1,15 +1,18 @@
 -- What clauses see of a client on the bus (own).
-use Rattle.std.specs.Prelude.{ℕ, Bool, List}
+use Rattle.std.specs.Prelude.{ℕ, Bool, false, List}
 use Rattle.outbox.specs.Items.{Item}
 use Rattle.unique_name.specs.UniqueNames.{unique_name}
 use Rattle.router.specs.Passes.{PassState}
+use Rattle.router.specs.Routes.{after_writing}
 use Rattle.peers.specs.declared.identity.Identity.{Identity}
 use Rattle.peers.specs.Holdings.{HoldingsState}
 
--- the messages that the bus put to the client itself, in order, and whether the client's outbox is known to be shut
+-- the messages that the bus put to the client itself, in order; whether the client's outbox is known to be shut; and whether
+-- what was put there, or refused, waits to be written out
 pub record OwnState : Type 0 where
   pub put : List Item
   pub knows_shut : Bool
+  pub is_waiting : Bool
 
 -- what its pass has seen and done; what the bus knows of the client's own outbox; the serial of the next message that the
 -- bus makes for it; what it is told of the bus; and what it has taken of the bus
@@ -24,3 +27,7 @@ module _ {M : Type 0} where
   -- its unique name
   abbrev pub name_of : PeerState M → List ℕ
   name_of v = unique_name v.pass.connection
+
+  -- nothing that was put, to the client or to others, waits to be written out any more
+  abbrev pub all_written_out : PeerState M → PeerState M
+  all_written_out v = record v { pass = after_writing v.pass; own = record v.own { is_waiting = false } }

@@ -1,7 +1,7 @@
 // The outbox of a client, as its own session puts messages there.
 
-ghost use Rattle.std.specs.Prelude.{◌≡◌, ◌++◌, ◌∷◌, [], true, None, IfErr, MatchBool, MatchResult};
-ghost use Rattle.peers.specs.Answers.{IsShutIf, after_refusal};
+ghost use Rattle.std.specs.Prelude.{◌≡◌, [], false, true, None, IfErr, MatchBool, MatchResult};
+ghost use Rattle.peers.specs.Answers.{IsShutIf, after_own_put, after_refusal};
 
 use crate::error::AnswerError;
 use outbox::{Item, Seat, Tally};
@@ -11,7 +11,8 @@ use std::marker::Model;
 use std::sync::Wait;
 
 /// A client's own mailbox, and a seat at its outbox. All that is written to the client goes through this outbox.
-/// Contracts see what was put by this seat, in order, and whether the outbox is known to be shut.
+/// Contracts see what was put by this seat, in order, whether the outbox is known to be shut, and whether anything waits there to
+/// be written out.
 #[derive(Drop)]
 pub struct OwnOutbox<M: Mailbox> {
     mailbox: M,
@@ -26,7 +27,7 @@ impl<M: Mailbox> Model for OwnOutbox<M> {
 
     ghost Value = { OwnState };
 
-    ghost view = { λ o. record { put = o.seat.view.put; knows_shut = o.seat.knows_shut } };
+    ghost view = { λ o. record { put = o.seat.view.put; knows_shut = o.seat.knows_shut; is_waiting = o.is_waiting } };
 
     ghost invariant = { λ o. o.seat.outbox ≡ M.outbox_of o.mailbox };
 }
@@ -34,7 +35,7 @@ impl<M: Mailbox> Model for OwnOutbox<M> {
 impl<M: Mailbox> OwnOutbox<M> {
     /// What goes through the outbox of this mailbox. Nothing is put yet.
     pub fn new(mailbox: M) -> OwnOutbox<M>
-        ensures { result.put ≡ [] }
+        ensures { (result.put ≡ []) × (result.is_waiting ≡ false) }
     {
         let seat = mailbox.outbox().seat();
         OwnOutbox {
@@ -56,7 +57,7 @@ impl<M: Mailbox> OwnOutbox<M> {
     /// `Slow` if the outbox is full or shut. Nothing is put then, and the outbox is known to be shut.
     pub fn put<W: Wait>(&mut self, rt: &W, message: Item) -> Result<(), AnswerError>
         requires { message.mark ≡ None }
-        ensures put { MatchResult result (λ _. self.new ≡ record self.old { put = self.old.put ++ message ∷ [] }) (λ error. (error ≡ AnswerError.Slow) × (self.new ≡ after_refusal error self.old)) }
+        ensures put { MatchResult result (λ _. self.new ≡ after_own_put message self.old) (λ error. (error ≡ AnswerError.Slow) × (self.new ≡ after_refusal error self.old)) }
         ensures slow { IfErr result (λ error. IsShutIf error self.new) }
     {
         self.is_waiting = true;
@@ -80,7 +81,7 @@ impl<M: Mailbox> OwnOutbox<M> {
 
     /// Writes out what was put since the last call.
     pub fn push_out<W: Wait>(&mut self, rt: &W)
-        ensures { self.new ≡ self.old }
+        ensures { self.new ≡ record self.old { is_waiting = false } }
     {
         if self.is_waiting {
             self.is_waiting = false;

@@ -2,7 +2,7 @@
 use Rattle.std.specs.Prelude.{Bool, false, ℕ, List, [], Option, Some, None}
 use Rattle.auth.specs.Talk.{Standing, opening_with}
 use Rattle.auth.specs.declared.terms.Terms.{Terms}
-use Rattle.peers.specs.PeerState.{PeerState}
+use Rattle.peers.specs.PeerState.{PeerState, all_written_out}
 use Rattle.sessions.specs.declared.error.SessionError.{SessionError}
 
 -- where the talk stands, and whether it is over; the bytes that were fed and not handled; the client's peer, once Hello made
@@ -22,3 +22,8 @@ new_session terms = record { standing = opening_with terms; has_begun = false; u
 abbrev pub connection_of : {M : Type 0} → Option (PeerState M) → Option ℕ
 connection_of (Some v) = Some v.pass.connection
 connection_of None = None
+
+-- nothing that was put, to the client or to others, waits to be written out any more. Before Hello clauses don't see its outbox.
+abbrev pub peer_written_out : {M : Type 0} → Option (PeerState M) → Option (PeerState M)
+peer_written_out None = None
+peer_written_out (Some v) = Some (all_written_out v)
