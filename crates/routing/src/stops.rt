@@ -1,9 +1,9 @@
 // A sender's seats at the outboxes of its recipients.
 
-ghost use Rattle.std.specs.Prelude.{◌≡◌, ◌+◌, ◌<◌, ◌≤◌, ◌++◌, ◌∷◌, [], ℕ, cond, false, IfOk, OnOk, IfSome, IsSomeAnd, filter, length, position};
+ghost use Rattle.std.specs.Prelude.{◌≡◌, ◌<◌, ◌≤◌, ◌++◌, ◌∷◌, [], ℕ, cond, false, IfOk, OnOk, IfSome, IsSomeAnd, filter, length, position};
 ghost use Rattle.outbox.specs.Views.{Follows, blank};
 ghost use Rattle.routing.specs.SenderView.{StopView};
-ghost use Rattle.routing.specs.Stops.{RisesFrom, is_for, is_in, stop_at, written, all_written, HasStop, AllHave};
+ghost use Rattle.routing.specs.Stops.{RisesFrom, is_for, is_in, stop_at, all_written, HasStop, AllHave};
 ghost use Rattle.routing.specs.Puts.{PutThere, PutAt, PutTo, SeatsTaken};
 
 use crate::mailbox::Mailbox;
@@ -68,16 +68,6 @@ impl<C: Mailbox> Stop<C> {
             seat,
             is_waiting: false,
         })
-    }
-
-    /// Writes the outbox out, where something was put since it last was.
-    pub(crate) fn push_out<R: Wait>(&mut self, rt: &R)
-        ensures { self.new ≡ written self.old }
-    {
-        if self.is_waiting {
-            self.is_waiting = false;
-            self.carrier.push_out(rt);
-        }
     }
 }
 
@@ -153,7 +143,11 @@ pub(crate) fn push_out_all<C: Mailbox, R: Wait>(rt: &R, stops: &mut [Stop<C>])
     ensures { stops.new ≡ all_written stops.old }
 {
     for place in 0..stops.len() {
-        stops[place].push_out(rt);
+        let stop = &mut stops[place];
+        if stop.is_waiting {
+            stop.is_waiting = false;
+            stop.carrier.push_out(rt);
+        }
     }
 }
 
