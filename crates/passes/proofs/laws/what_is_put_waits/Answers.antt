@@ -6,17 +6,19 @@ use Rattle.passes.specs.declared.unicasts.Sent.TheVariants.{Put, NoOwner, Full}
 use Rattle.passes.proofs.laws.what_is_put_waits.Goals as goal
 
 -- nothing is put at one for whom nothing waits
-nothing : (listed refuses : Bool) (waits : Bool) (old new : List Item) (item : Item) → (listed ≡ true → waits ≡ true) → waits ≡ false → new ≡ old ++ cond (listed && not refuses) (item ∷ []) [] → new ≡ old
-nothing true refuses waits old new item if_listed none is = absurd (true≢false (sym (if_listed refl) ∙ none))
-nothing false refuses waits old new item if_listed none is = is ∙ append-nil old
+nothing : (its : Bool) (waits : Bool) (old new : List Item) (item : Item) → (its ≡ true → waits ≡ true) → waits ≡ false → new ≡ old ++ cond its (item ∷ []) [] → new ≡ old
+nothing true waits old new item if_its none is = absurd (true≢false (sym (if_its refl) ∙ none))
+nothing false waits old new item if_its none is = is ∙ append-nil old
 
-plain : (its : Bool) (waits : Bool) (old new : List Item) (item : Item) → (its ≡ true → waits ≡ true) → waits ≡ false → new ≡ old ++ cond its (item ∷ []) [] → new ≡ old
-plain true waits old new item if_its none is = absurd (true≢false (sym (if_its refl) ∙ none))
-plain false waits old new item if_its none is = is ∙ append-nil old
+-- who is listed and hasn't refused is listed
+listed : (is refuses : Bool) → (is && not refuses) ≡ true → is ≡ true
+listed true refuses put = refl
+listed false refuses put = put
 
 pub returns-clause-broadcast : goal.returns-clause-broadcast
 returns-clause-broadcast g c v w source bytes recipients refused n routed there none =
-    nothing (is_in n recipients) (is_in n refused) (waits_at n w.stops) (puts_at n v.stops) (puts_at n w.stops) routed.put.item (routed.waits n) none (routed.put.puts n there)
+    let waits = λ (put : is_put n recipients refused ≡ true). routed.waits n (listed (is_in n recipients) (is_in n refused) put) in
+    nothing (is_put n recipients refused) (waits_at n w.stops) (puts_at n v.stops) (puts_at n w.stops) routed.put.item waits none (routed.put.puts n there)
 
 -- the owner's outbox waits
 its : (m n : ℕ) (stops : List StopView) → waits_at m stops ≡ true → (m == n) ≡ true → waits_at n stops ≡ true
@@ -25,6 +27,6 @@ its m n stops waits is = let P : ℕ → Type 0 = λ x. waits_at x stops ≡ tru
 pub returns-clause-unicast : goal.returns-clause-unicast
 returns-clause-unicast g c v w to bytes (Put m) n sent there none =
     let put = sent.3 in
-    plain (m == n) (waits_at n w.stops) (puts_at n v.stops) (puts_at n w.stops) put.item (its m n w.stops sent.4) none (put.puts n there)
+    nothing (m == n) (waits_at n w.stops) (puts_at n v.stops) (puts_at n w.stops) put.item (its m n w.stops sent.4) none (put.puts n there)
 returns-clause-unicast g c v w to bytes (Full m) n sent there none = sent.0.puts n there
 returns-clause-unicast g c v w to bytes NoOwner n sent there none = sent.0.puts n there
