@@ -1,5 +1,5 @@
 -- How a client becomes a monitor (D-Bus Specification, "Message Bus Messages": BecomeMonitor).
-use Rattle.std.specs.Prelude.{◌≡◌, ◌⊎◌, List, ℕ, codes, Result, Ok, Err}
+use Rattle.std.specs.Prelude.{◌≡◌, ◌⊎◌, codes, Result, Ok, Err}
 use Rattle.outbox.specs.Seated.{OutboxId}
 use Rattle.message_build.specs.Building.{AreAsked}
 use Rattle.bus_messages.specs.declared.body.Body.TheVariants.{Nothing}

@@ -4,7 +4,7 @@ ghost use Rattle.std.specs.Prelude.{◌≡◌};
 ghost use Rattle.message_view.specs.Message.{Message};
 ghost use Rattle.message_view.specs.Valid.{Valid};
 ghost use Rattle.peers.specs.Answers.{SlowIfShut};
-ghost use Rattle.peers.specs.Handling.{CallsBus, HandledAs, Handles, is_for_bus, is_known, is_signal};
+ghost use Rattle.peers.specs.Handling.{CallsBus, Handles, is_for_bus, is_known, is_signal};
 
 use crate::context::Context;
 use crate::error::AnswerError;
@@ -61,19 +61,6 @@ impl<B: Naming, M: Mailbox> Peer<B, M> {
         if self.pass.is_closed() {
             return Err(AnswerError::Monitor);
         }
-        self.handle_open(context, lists, view)
-    }
-
-    // Handles a message of a client that watches nothing.
-    fn handle_open<W: Wait, R: Wait + Drop>(
-        &mut self,
-        context: &Context<'_, B, M, W, R>,
-        lists: &mut RouteLists,
-        view: &View<'_>,
-    ) -> Result<(), AnswerError>
-        ensures handled { (m : Message) → Valid view.now m → HandledAs M.outbox_of context.now.shares view.now m (is_for_bus m) self.old result self.new }
-        ensures slow { SlowIfShut result self.new }
-    {
         if is_for_bus(view) {
             return self.call_bus(context, lists, view);
         }
