@@ -18,10 +18,10 @@ def program():
 
 
 class Bus:
-    """A bus in a process of its own, on a Unix socket or a TCP port (dbus-broker on a Unix socket alone). Ours has a worker for
-    each processor that it may run on when it begins, or as many as are asked for."""
+    """A bus in a process of its own, on a Unix socket or a TCP port (dbus-broker on a Unix socket alone). Ours is the program at a
+    path, if one is given, and has a worker for each processor that it may run on when it begins, or as many as are asked for."""
 
-    def __init__(self, kind, transport="unix", limit=None, workers=None, options=None, home=None):
+    def __init__(self, kind, transport="unix", limit=None, workers=None, options=None, home=None, path=None):
         self.kind = kind
         self.controller = None
         self.reader = None
@@ -37,7 +37,7 @@ class Bus:
             options = ["--allow-external"] if transport == "tcp" else []
         environment = {**os.environ, "HOME": home} if home else None
         if kind == "dbusfan":
-            words = [program(), "--listen", wanted, "--guid", GUID, *options]
+            words = [path or program(), "--listen", wanted, "--guid", GUID, *options]
         else:
             words = ["dbus-daemon", f"--config-file={self.config(wanted)}", "--nofork", "--print-address"]
         if limit:
