@@ -137,7 +137,7 @@ fn monitor_help(name: &str) -> &'static str {
     if says_no_method(name) {
         "dbusfan: this bus has no monitors: without --monitor its broadcasts are shown\n"
     } else if name == ACCESS_DENIED {
-        "dbusfan: root may monitor a bus, and the user that it runs as; dbusfan's own knows who asks where its socket's folder has mode 0700\n"
+        "dbusfan: only root and the bus's user may monitor; a dbusfan bus knows its user only where its socket's folder has mode 0700\n"
     } else {
         "dbusfan: without --monitor the broadcasts of this bus are shown\n"
     }
@@ -146,7 +146,7 @@ fn monitor_help(name: &str) -> &'static str {
 /// What helps where a bus refuses by an error of this name to tell which rules a connection has.
 fn match_rules_help(name: &str) -> &'static str {
     if name == ACCESS_DENIED {
-        "dbusfan: a bus tells root alone which rules others have; dbusfan's own its own user, where its socket's folder has mode 0700\n"
+        "dbusfan: only root may ask for others' rules; on a dbusfan bus its user may, where its socket's folder has mode 0700\n"
     } else {
         "dbusfan: this bus doesn't tell which rules a connection has\n"
     }
