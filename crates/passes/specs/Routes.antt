@@ -81,5 +81,5 @@ module _ {M : Type 0} where
       ((error ≡ errors.Closed) × (w ≡ v)) ⊎ (((error ≡ errors.NoMemory) ⊎ ((error ≡ errors.Counts) × (v.count ≡ max_count))) × HasNotPut outbox_of v w)
 
   -- nothing that the pass has put waits to be written out any more
-  abbrev pub after_writing : PassState M → PassState M
-  after_writing v = record v { stops = all_written v.stops }
+  abbrev pub pass_written : PassState M → PassState M
+  pass_written v = record v { stops = all_written v.stops }

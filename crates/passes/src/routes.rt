@@ -2,7 +2,7 @@
 
 ghost use Rattle.std.specs.Prelude.{◌≡◌, ◌⊎◌, [], IfErr, OnOk, MatchResult};
 ghost use Rattle.routing.specs.Stops.{RisesFrom, AllHave, Keeps, Routed, Unrouted};
-ghost use Rattle.passes.specs.Routes.{HasRouted, IsUnrouted, after_writing};
+ghost use Rattle.passes.specs.Routes.{HasRouted, IsUnrouted, pass_written};
 
 use crate::error::BusError;
 use crate::pass::Pass;
@@ -119,7 +119,7 @@ impl<J: Naming, M: Mailbox> Pass<J, M> {
 
     /// Writes out what stands in each outbox into which the pass has put since the last call. Nothing is held any more.
     pub fn push_out<W: Wait>(&mut self, rt: &W)
-        ensures { self.new ≡ after_writing self.old }
+        ensures { self.new ≡ pass_written self.old }
     {
         if let Some(sender) = &mut self.sender {
             sender.push_out(rt);

@@ -9,7 +9,7 @@ use Rattle.router.specs.Command.TheVariants.{DropOne, Close}
 use Rattle.router.specs.Publication.{Publication}
 use Rattle.router.specs.Reply.{Reply}
 use Rattle.router.specs.Reply.TheVariants as replies
-use Rattle.router.specs.Routes.{after_writing}
+use Rattle.router.specs.Routes.{pass_written}
 use Rattle.peers.specs.declared.error.AnswerError.{AnswerError}
 use Rattle.peers.specs.declared.leaving.Giving.{Giving}
 use Rattle.peers.specs.declared.leaving.Giving.TheVariants as givings
@@ -17,6 +17,7 @@ use Rattle.peers.specs.declared.leaving.Leaving.{Leaving}
 use Rattle.peers.specs.declared.leaving.Leaving.TheVariants.{Done, Ended, Refused}
 use Rattle.peers.specs.Announcements.{Announces, HasSignalled, change_asked}
 use Rattle.peers.specs.Calling.{AnswersCallers}
+use Rattle.peers.specs.Passing.{with_pass}
 use Rattle.peers.specs.PeerState.{PeerState, name_of}
 use Rattle.peers.specs.Rows.{HasCalled}
 
@@ -68,7 +69,7 @@ module _ {M : Type 0} where
   -- name is gone, and tells those who wait for its replies, in this order, and does nothing else. Then nothing that it has put
   -- to others waits to be written out.
   abbrev pub Leaves : (M → OutboxId) → PeerState M → Leaving → PeerState M → Type 0
-  Leaves outbox_of v leaving w = (cleared : Bool) × (mid last : PeerState M) × AreGivenUp outbox_of cleared v mid × ClosesIf outbox_of cleared mid leaving last × (w ≡ record last { pass = after_writing last.pass })
+  Leaves outbox_of v leaving w = (cleared : Bool) × (mid last : PeerState M) × AreGivenUp outbox_of cleared v mid × ClosesIf outbox_of cleared mid leaving last × (w ≡ with_pass last (pass_written last.pass))
 
   -- a peer that has left has closed its pass
   abbrev pub HasLeft : Leaving → PeerState M → Type 0

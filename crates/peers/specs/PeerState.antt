@@ -3,7 +3,7 @@ use Rattle.std.specs.Prelude.{ℕ, Bool, false, List}
 use Rattle.outbox.specs.Items.{Item}
 use Rattle.unique_name.specs.UniqueNames.{unique_name}
 use Rattle.router.specs.Passes.{PassState}
-use Rattle.router.specs.Routes.{after_writing}
+use Rattle.router.specs.Routes.{pass_written}
 use Rattle.peers.specs.declared.identity.Identity.{Identity}
 use Rattle.peers.specs.Holdings.{HoldingsState}
 
@@ -29,5 +29,5 @@ module _ {M : Type 0} where
   name_of v = unique_name v.pass.connection
 
   -- nothing that was put, to the client or to others, waits to be written out any more
-  abbrev pub all_written_out : PeerState M → PeerState M
-  all_written_out v = record v { pass = after_writing v.pass; own = record v.own { is_waiting = false } }
+  abbrev pub peer_written : PeerState M → PeerState M
+  peer_written v = record v { pass = pass_written v.pass; own = record v.own { is_waiting = false } }

@@ -2,7 +2,7 @@
 
 ghost use Rattle.std.specs.Prelude.{◌≡◌, true, MatchBool};
 ghost use Rattle.peers.specs.Holdings.{nothing_held};
-ghost use Rattle.peers.specs.PeerState.{PeerState, all_written_out};
+ghost use Rattle.peers.specs.PeerState.{PeerState, peer_written};
 
 use crate::all_instructions::AllInstructions;
 use crate::holdings::Holdings;
@@ -105,7 +105,7 @@ impl<B: Naming, M: Mailbox> Peer<B, M> {
 
     /// Writes out what was put, to the client itself and to others.
     pub fn push_out<W: Wait>(&mut self, rt: &W)
-        ensures { self.new ≡ all_written_out self.old }
+        ensures { self.new ≡ peer_written self.old }
     {
         self.own.push_out(rt);
         self.pass.push_out(rt);

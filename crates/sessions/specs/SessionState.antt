@@ -2,7 +2,7 @@
 use Rattle.std.specs.Prelude.{Bool, false, ℕ, List, [], Option, Some, None}
 use Rattle.auth.specs.Talk.{Standing, opening_with}
 use Rattle.auth.specs.declared.terms.Terms.{Terms}
-use Rattle.peers.specs.PeerState.{PeerState, all_written_out}
+use Rattle.peers.specs.PeerState.{PeerState, peer_written}
 use Rattle.sessions.specs.declared.error.SessionError.{SessionError}
 
 -- where the talk stands, and whether it is over; the bytes that were fed and not handled; the client's peer, once Hello made
@@ -24,6 +24,6 @@ connection_of (Some v) = Some v.pass.connection
 connection_of None = None
 
 -- nothing that was put, to the client or to others, waits to be written out any more. Before Hello clauses don't see its outbox.
-abbrev pub peer_written_out : {M : Type 0} → Option (PeerState M) → Option (PeerState M)
-peer_written_out None = None
-peer_written_out (Some v) = Some (all_written_out v)
+abbrev pub client_written : {M : Type 0} → Option (PeerState M) → Option (PeerState M)
+client_written None = None
+client_written (Some v) = Some (peer_written v)

@@ -1,7 +1,7 @@
 // The client that a session serves.
 
 ghost use Rattle.std.specs.Prelude.{◌≡◌, None, IfErr, IfSome, MatchBool, is_some};
-ghost use Rattle.sessions.specs.SessionState.{connection_of, peer_written_out};
+ghost use Rattle.sessions.specs.SessionState.{connection_of, client_written};
 ghost use Rattle.sessions.specs.Steps.{IsFoundShut, IsShutIf, Takes, outcome_of};
 ghost use Rattle.sessions.specs.Subjects.{IsSubjectOf, MayHaveSeen};
 
@@ -183,7 +183,7 @@ impl<B: Naming, M: Mailbox> Client<B, M> {
 
     /// Writes out what was put, to the client and to others.
     pub(crate) fn push_out<W: Wait>(&mut self, rt: &W)
-        ensures { self.new ≡ peer_written_out self.old }
+        ensures { self.new ≡ client_written self.old }
     {
         if let Some(own) = &mut self.own {
             own.push_out(rt);

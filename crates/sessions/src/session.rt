@@ -5,7 +5,7 @@ ghost use Rattle.auth.specs.Admissions.{any_admission};
 ghost use Rattle.sessions.specs.Steps.{Feeds, IsShutIf, Steps, TakesNext, TakesMessage, TakesLine};
 ghost use Rattle.sessions.specs.Ends.{EndsAny};
 ghost use Rattle.sessions.specs.Subjects.{HasLooked, IsNextSubject};
-ghost use Rattle.sessions.specs.SessionState.{connection_of, new_session, peer_written_out};
+ghost use Rattle.sessions.specs.SessionState.{connection_of, new_session, client_written};
 
 use crate::client::Client;
 use crate::ending::{Rest, end};
@@ -299,7 +299,7 @@ impl<B: Naming, M: Mailbox> Session<B, M> {
 
     /// Writes out what the session has put, its own outbox's and that of others.
     pub fn push_out<W: Wait>(&mut self, rt: &W)
-        ensures { self.new ≡ record self.old { peer = peer_written_out self.old.peer } }
+        ensures { self.new ≡ record self.old { peer = client_written self.old.peer } }
     {
         self.client.push_out(rt);
     }
