@@ -1,6 +1,6 @@
 // What a pass reads in the published state, without the lock of the bus.
 
-ghost use Rattle.std.specs.Prelude.{◌≡◌, Some, MatchResult};
+ghost use Rattle.std.specs.Prelude.{◌≡◌, Some, [], MatchResult};
 ghost use mathlib.Core.List.{IsPrefix};
 ghost use Rattle.message_view.specs.Message.{Message};
 ghost use Rattle.message_view.specs.Valid.{Valid};
@@ -15,8 +15,9 @@ ghost use Rattle.passes.specs.Passes.{PassState, sender_of};
 use crate::error::BusError;
 use crate::names::is_there;
 use crate::pass::Pass;
+use crate::route_lists::RouteLists;
 use arrayvec::ArrayVec;
-use fan_out::{MAX_RECIPIENTS, may_reach, select};
+use fan_out::{MAX_RECIPIENTS, may_reach, select, select_into};
 use message_view::View;
 use owners::WellKnown;
 use published::Naming;
@@ -65,6 +66,38 @@ impl<J: Naming, M: Mailbox> Pass<J, M> {
         let recipients = select(visit.state(), sender, view);
         self.leave(visit);
         Ok(recipients)
+    }
+
+    /// Lists the recipients of a broadcast as `recipients` gives them, in lists of the caller's, so that none has to be made or
+    /// moved. No outbox is asked, so that none has refused it.
+    ///
+    /// # Errors
+    ///
+    /// As those of `recipients`.
+    pub fn recipients_into(
+        &mut self,
+        source: Source,
+        view: &View<'_>,
+        lists: &mut RouteLists,
+    ) -> Result<(), BusError>
+        ensures found { MatchResult result
+            (λ _. IsPrefix self.old.seen self.new.seen × ((m : Message) → Valid view.now m → AreRecipients (after self.new.seen) (sender_of source self.old.connection) m lists.new.recipients.items))
+            (λ error. (error ≡ BusError.Closed) × (self.new.seen ≡ self.old.seen)) }
+        ensures refused { lists.new.refused.items ≡ [] }
+        ensures same { self.new ≡ record self.old { seen = self.new.seen } }
+    {
+        lists.clear();
+        let visit = self.enter(source)?;
+        let from = source.sender(self.connection());
+        select_into(
+            visit.state(),
+            from,
+            view,
+            &mut lists.marks,
+            &mut lists.recipients,
+        );
+        self.leave(visit);
+        Ok(())
     }
 
     /// Whether a broadcast with the member, the interface, the path and the argument 0 of this message, and with this SENDER,

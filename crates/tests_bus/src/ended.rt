@@ -5,7 +5,7 @@ ghost use Rattle.std.specs.Prelude.{◌≡◌};
 use crate::fixture::{expect_recipients, name_a, new_bus, read_message, s1_bytes};
 use crate::letters::connect;
 use published::{Naming, Opened};
-use router::{BusError, Letterbox, Pass, Source};
+use router::{BusError, Letterbox, Pass, RouteLists, Source};
 use std::alloc::Global;
 use std::marker::Brand;
 use std::mem::forget;
@@ -45,6 +45,9 @@ fn expect_end<J: Naming, R: Abort>(rt: &R, alloc: Global, pass: &mut Pass<J, Let
     let view = read_message(rt, bytes.as_slice());
     let found = pass.recipients(Source::Bus, &view);
     assert_eq!(rt; found.err(), Some(BusError::Closed));
+    let mut lists = RouteLists::new();
+    let listed = pass.recipients_into(Source::Bus, &view, &mut lists);
+    assert_eq!(rt; listed, Err(BusError::Closed));
     let name = name_a(rt);
     assert_eq!(rt; pass.owner_of(&name), Err(BusError::Closed));
     let queued = pass.queued_owners(alloc, &name);

@@ -11,7 +11,7 @@ use message_view::View;
 use owners::{Change, NameReply, Named, WellKnown};
 use program_table::Reply;
 use published::{Naming, Opened};
-use router::{Bus, BusError, Letterbox, Pass, Source};
+use router::{Bus, BusError, Letterbox, Pass, RouteLists, Source};
 use std::alloc::Global;
 use std::process::Abort;
 use std::sync::Wait;
@@ -152,7 +152,7 @@ pub(crate) fn expect_recipients<J: Naming, R: Abort>(
     expect_recipients_of(rt, pass, Source::Own, bytes.as_slice(), wanted);
 }
 
-/// The recipients of a broadcast of this source, whose bytes these are.
+/// The recipients of a broadcast of this source, whose bytes these are, given back and listed in lists that are lent.
 pub(crate) fn expect_recipients_of<J: Naming, R: Abort>(
     rt: &R,
     pass: &mut Pass<J, Letterbox>,
@@ -163,4 +163,8 @@ pub(crate) fn expect_recipients_of<J: Naming, R: Abort>(
     let view = read_message(rt, bytes);
     let found = pass.recipients(source, &view).expect(rt, "the recipients");
     assert_eq!(rt; found.as_slice(), wanted);
+    let mut lists = RouteLists::new();
+    let listed = pass.recipients_into(source, &view, &mut lists);
+    assert_eq!(rt; listed, Ok(()));
+    assert_eq!(rt; lists.recipients.as_slice(), wanted);
 }
