@@ -1,6 +1,6 @@
 // What the workers share.
 
-ghost use Rattle.std.specs.Prelude.{◌≡◌};
+ghost use Rattle.std.specs.Prelude.{◌≡◌, ◌<◌, ◌^◌};
 
 use crate::clients::Clients;
 use crate::limits::Limits;
@@ -19,9 +19,15 @@ use std::sync::{Arc, Mutex, Wait};
 /// How many sessions' ends may wait for memory.
 const RESTS: usize = 256;
 
-/// How many readers of the bus's state there are at most: one that each of 16 workers lends to its connections, and one for the
-/// end of a session that it goes on with.
-const READERS: usize = 16 + 16;
+/// How many readers of the bus's state there are at most: one that each worker lends to its connections, and one for the end of a
+/// session that it goes on with; and as many for a thread that accepts and serves nobody. Each command on the bus looks at all
+/// of them.
+fn readers_for(workers: usize) -> usize
+    ensures some { 0 < result }
+    ensures few { result < 2 ^ 32 }
+{
+    2 * (workers.clamp(1, 16) + 1)
+}
 
 /// The bus, and what the workers share beside it.
 #[derive(Drop)]
@@ -53,7 +59,8 @@ impl<J: Naming, R: Wait + Drop> Hub<J, R> {
         let limits = start.limits;
         let instructions = Arc::new(alloc, AllInstructions::new(limits.all_instructions))?;
         let rests = Vec::with_capacity(alloc, RESTS)?;
-        let Ok(bus) = Bus::with_capacity(rt, alloc, start.key, opened, READERS, limits.capacity)
+        let readers = readers_for(limits.workers);
+        let Ok(bus) = Bus::with_capacity(rt, alloc, start.key, opened, readers, limits.capacity)
         else {
             return Err(ErrorKind::OutOfMemory.into());
         };
