@@ -1,7 +1,5 @@
 // The shapes of entries: which texts they are looked up by.
 
-ghost use Rattle.std.specs.Prelude.{ℕ, ◌<◌, ◌≤◌, length, slice_index};
-
 use place_lists::{Lists, Walk};
 use std::alloc::{AllocError, Global};
 use std::marker::Model;
@@ -10,18 +8,7 @@ use std::marker::Model;
 pub(crate) const SHAPES: u16 = 128;
 
 /// The least shape that has argument 0 or its namespace.
-const ARG0_SHAPE: usize = 32;
-
-/// The greatest of the counts from a place on.
-fn most_from(counts: &[u16], from: usize) -> u16
-    ensures { (k : ℕ) → from ≤ k → k < length counts.now → slice_index counts.now k ≤ result }
-{
-    let mut most = 0;
-    for place in from..counts.len() {
-        most = most.max(counts[place]);
-    }
-    most
-}
+const ARG0_SHAPE: u16 = 32;
 
 /// How many entries have each shape, and the list of the shapes in use. Shape 0, that of entries that are looked up by no
 /// text, is in no list: they are looked at for each message. Contracts see the counts.
@@ -88,7 +75,7 @@ impl Shapes {
     pub(crate) fn has_arg0(&self) -> bool
         ensures { result ≡ false → (shape : ℕ) → is_in_use shape self.now ≡ true → shape < 32 }
     {
-        most_from(self.counts.as_slice(), ARG0_SHAPE) != 0
+        self.used.walk(0).any(|shape| shape >= ARG0_SHAPE)
     }
 
     /// The shapes in use.
