@@ -21,6 +21,10 @@ module _ {M : Type 0} where
   abbrev pub ClaimsNothing : ℕ → Publication M → Type 0
   ClaimsNothing connection now = reply_to (after now.history) (DropOne connection) ≡ Nothing
 
+  -- it has a claim, or isn't there
+  abbrev pub ClaimsOrIsGone : ℕ → Publication M → Type 0
+  ClaimsOrIsGone connection now = reply_to (after now.history) (DropOne connection) ≢ Nothing
+
   -- What is said of a call through the bus: it is so of what was published when it had the lock, and after it.
   abbrev pub Once : (Publication M → Publication M → Type 0) → Type 0
   Once P = (before : Publication M) × (next : Publication M) × P before next
@@ -80,10 +84,14 @@ module _ {M : Type 0} where
   Answers closes v before command (Ok reply) w next = IsDone v before command reply w next × (w.connection ≡ v.connection) × (w.is_closed ≡ closes)
   Answers closes v before command (Err error) w next = (IsRefused v before command error w next × KeepsOwn v w) ⊎ IsClosed v before error w next
 
+  -- why a limit is Closed: the bus has ended, or accepts no more commands
+  abbrev pub TakesNoLimit : Capacity → Publication M → Publication M → Type 0
+  TakesNoLimit most before next = (next.has_ended ≡ true) ⊎ (is_accepted (after before.history) (Limit most) ≡ false)
+
   -- how much there may be is told by the next command, or nothing changes
   abbrev pub Limits : Capacity → Publication M → Result (Unit {0}) BusError → Publication M → Type 0
   Limits most before (Ok _) next = next.history ≡ before.history ++ Limit most ∷ []
-  Limits most before (Err error) next = (next.history ≡ before.history) × ((error ≡ errors.NoMemory) ⊎ (error ≡ errors.Closed))
+  Limits most before (Err error) next = (next.history ≡ before.history) × ((error ≡ errors.NoMemory) ⊎ ((error ≡ errors.Closed) × TakesNoLimit most before next))
 
   -- why a Connect is Closed, whatever the state says
   pub data IsPast (v : PassState M) (before next : Publication M) : Type 0 where

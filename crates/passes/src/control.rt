@@ -1,12 +1,12 @@
 // What lies under the bus's lock.
 
-ghost use Rattle.std.specs.Prelude.{◌≡◌, ◌<◌, ◌^◌, false, true, length, MatchResult, IfOk, IfErr};
+ghost use Rattle.std.specs.Prelude.{◌≡◌, ◌<◌, ◌^◌, false, true, length, MatchBool, MatchResult, IfOk, IfErr};
 ghost use mathlib.Core.List.{IsPrefix};
 ghost use Rattle.program_table.specs.State.{State};
 ghost use Rattle.program_table.specs.History.{after, is_command_of, IsHistory};
 ghost use Rattle.published.specs.Publication.{Publication, nothing_published};
 ghost use Rattle.passes.specs.Passes.{PassState, new_pass};
-ghost use Rattle.passes.specs.Calls.{Answers, ClaimsNothing, Connects, Limits};
+ghost use Rattle.passes.specs.Calls.{Answers, ClaimsNothing, ClaimsOrIsGone, Connects, Limits};
 ghost use Rattle.passes.specs.Readiness.{Admits, IsReady};
 
 use crate::error::BusError;
@@ -118,7 +118,7 @@ impl<J: Naming, M: Mailbox, R: Wait + Drop> Control<J, M, R> {
 
     /// Whether the pass's connection is there and has no claim on a name, so that `drop_name` would find nothing.
     pub fn claims_nothing(&self, pass: &Pass<J, M>) -> bool
-        ensures { result ≡ true → ClaimsNothing pass.now.connection self.now }
+        ensures { MatchBool result (ClaimsNothing pass.now.connection self.now) (ClaimsOrIsGone pass.now.connection self.now) }
     {
         let command = Command::DropOne(pass.connection());
         matches!(self.state().answer(&command), Reply::Nothing)

@@ -1,9 +1,9 @@
 // What one user of the bus has seen and done.
 
-ghost use Rattle.std.specs.Prelude.{◌≡◌, ◌≢◌, ◌⊎◌, ◌+◌, ◌≤◌, ◌<◌, ◌^◌, [], true, length, MatchResult};
+ghost use Rattle.std.specs.Prelude.{◌≡◌, ◌≢◌, ◌⊎◌, ◌+◌, ◌≤◌, ◌<◌, ◌^◌, [], true, length, IfOk, MatchResult};
 ghost use mathlib.Core.List.{IsPrefix};
 ghost use Rattle.program_table.specs.History.{own_commands};
-ghost use Rattle.passes.specs.Passes.{PassState, HasTaken, new_pass};
+ghost use Rattle.passes.specs.Passes.{PassState, HasTaken, IsOpenTo, new_pass};
 ghost use Rattle.passes.specs.Sending.{sending};
 
 use crate::error::BusError;
@@ -191,6 +191,7 @@ impl<J: Naming, M: Mailbox> Pass<J, M> {
     /// or the bus is gone.
     pub(crate) fn enter(&mut self, source: Source) -> Result<Visit<J, M>, BusError>
         ensures visit { MatchResult result (λ visit. IsPrefix self.old.seen visit × (self.new.connection ≢ 0)) (λ error. error ≡ BusError.Closed) }
+        ensures open { IfOk result (λ _. IsOpenTo source self.old) }
         ensures same { self.new ≡ self.old }
     {
         if self.connection == 0 || (source == Source::Own && self.is_closed) {

@@ -1,7 +1,8 @@
 // Broadcasts of a pass.
 
-ghost use Rattle.std.specs.Prelude.{◌≡◌, ◌⊎◌, [], IfErr, OnOk, MatchResult};
+ghost use Rattle.std.specs.Prelude.{◌≡◌, ◌⊎◌, [], IfErr, IfOk, OnOk, MatchResult};
 ghost use Rattle.routing.specs.Stops.{RisesFrom, AllHave, Keeps, Routed, Unrouted};
+ghost use Rattle.passes.specs.Passes.{IsOpenTo};
 ghost use Rattle.passes.specs.Routes.{HasRouted, IsUnrouted, pass_written};
 
 use crate::error::BusError;
@@ -68,7 +69,8 @@ impl<J: Naming, M: Mailbox> Pass<J, M> {
     ) -> Result<(), BusError>
         // The view is that of the bytes.
         requires { view.now ≡ bytes.now }
-        ensures { MatchResult result (λ _. HasRouted M.outbox_of source bytes.now self.old lists.new.recipients.items lists.new.refused.items self.new) (λ error. IsUnrouted M.outbox_of error self.old self.new) }
+        ensures routed { MatchResult result (λ _. HasRouted M.outbox_of source bytes.now self.old lists.new.recipients.items lists.new.refused.items self.new) (λ error. IsUnrouted M.outbox_of error self.old self.new) }
+        ensures open { IfOk result (λ _. IsOpenTo source self.old) }
     {
         self.broadcast_gated(rt, alloc, source, view, bytes, &OpenGate, lists)
     }
@@ -87,7 +89,8 @@ impl<J: Naming, M: Mailbox> Pass<J, M> {
     ) -> Result<(), BusError>
         // The view is that of the bytes.
         requires { view.now ≡ bytes.now }
-        ensures { MatchResult result (λ _. HasRouted M.outbox_of source bytes.now self.old lists.new.recipients.items lists.new.refused.items self.new) (λ error. IsUnrouted M.outbox_of error self.old self.new) }
+        ensures routed { MatchResult result (λ _. HasRouted M.outbox_of source bytes.now self.old lists.new.recipients.items lists.new.refused.items self.new) (λ error. IsUnrouted M.outbox_of error self.old self.new) }
+        ensures open { IfOk result (λ _. IsOpenTo source self.old) }
     {
         lists.clear();
         let visit = self.enter(source)?;

@@ -3,6 +3,7 @@
 ghost use Rattle.std.specs.Prelude.{◌≡◌, [], IfOk, IfErr, IfSome, MatchResult};
 ghost use Rattle.routing.specs.Stops.{HasStop, Keeps, Unrouted};
 ghost use Rattle.passes.specs.Deliveries.{IsDelivered};
+ghost use Rattle.passes.specs.Passes.{IsOpenTo};
 ghost use Rattle.passes.specs.Unicasts.{Unicasts, IsUnsent};
 
 use crate::error::BusError;
@@ -67,7 +68,8 @@ impl<J: Naming, M: Mailbox> Pass<J, M> {
         to: &str,
         bytes: &Bytes,
     ) -> Result<Sent, BusError>
-        ensures { MatchResult result (λ sent. Unicasts M.outbox_of to.now bytes.now self.old sent self.new) (λ error. IsUnsent M.outbox_of error self.old self.new) }
+        ensures sent { MatchResult result (λ sent. Unicasts M.outbox_of to.now bytes.now self.old sent self.new) (λ error. IsUnsent M.outbox_of error self.old self.new) }
+        ensures open { IfOk result (λ _. IsOpenTo source self.old) }
     {
         let visit = self.enter(source)?;
         let mut sender = self.take_sender(alloc);

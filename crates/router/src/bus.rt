@@ -1,11 +1,11 @@
 // The bus as threads share it.
 
-ghost use Rattle.std.specs.Prelude.{◌≡◌, ◌⊎◌, ◌<◌, ◌^◌, MatchResult, IfErr, IfSome, false, true, length};
+ghost use Rattle.std.specs.Prelude.{◌≡◌, ◌⊎◌, ◌<◌, ◌^◌, MatchBool, MatchResult, IfErr, IfSome, false, true, length};
 ghost use mathlib.Core.List.{IsPrefix};
 ghost use Rattle.passes.specs.Command.TheVariants.{Detach, Request, Release, DropOne, Close};
 ghost use Rattle.passes.specs.Publication.{Publication};
 ghost use Rattle.passes.specs.Passes.{PassState, new_pass};
-ghost use Rattle.passes.specs.Calls.{Once, Answers, ClaimsNothing, Connects};
+ghost use Rattle.passes.specs.Calls.{Once, Answers, ClaimsNothing, ClaimsOrIsGone, Connects};
 ghost use Rattle.passes.specs.Readings.{AddsMatch, RemovesMatch, Attaches};
 
 use bpf_code::Ins;
@@ -281,7 +281,7 @@ impl<B: Naming, M: Mailbox, R: Wait + Drop> Bus<B, M, R> {
 
     /// Whether the connection is there and has no claim on a name, so that `drop_name` would find nothing.
     pub fn claims_nothing(&self, rt: &impl Wait, pass: &Pass<B, M>) -> bool
-        ensures { result ≡ true → Once (λ (before : Publication M) next. ClaimsNothing pass.now.connection before) }
+        ensures { Once (λ (before : Publication M) next. MatchBool result (ClaimsNothing pass.now.connection before) (ClaimsOrIsGone pass.now.connection before)) }
     {
         self.control(rt).claims_nothing(pass)
     }

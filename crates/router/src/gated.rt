@@ -1,6 +1,7 @@
 // Broadcasts through the bus that a test can hold back.
 
-ghost use Rattle.std.specs.Prelude.{◌≡◌, MatchResult};
+ghost use Rattle.std.specs.Prelude.{◌≡◌, IfOk, MatchResult};
+ghost use Rattle.passes.specs.Passes.{IsOpenTo};
 ghost use Rattle.passes.specs.Routes.{HasRoutedToSome, IsUnrouted};
 
 use crate::bus::Bus;
@@ -27,7 +28,8 @@ impl<B: Naming, M: Mailbox, R: Wait + Drop> Bus<B, M, R> {
     ) -> Result<ArrayVec<u64, MAX_RECIPIENTS>, BusError>
         // The view is that of the bytes.
         requires { view.now ≡ bytes.now }
-        ensures { MatchResult result (λ refused. HasRoutedToSome M.outbox_of source bytes.now pass.old refused.items pass.new) (λ error. IsUnrouted M.outbox_of error pass.old pass.new) }
+        ensures routed { MatchResult result (λ refused. HasRoutedToSome M.outbox_of source bytes.now pass.old refused.items pass.new) (λ error. IsUnrouted M.outbox_of error pass.old pass.new) }
+        ensures open { IfOk result (λ _. IsOpenTo source pass.old) }
     {
         let mut lists = RouteLists::new();
         pass.broadcast_gated(rt, alloc, source, view, bytes, gate, &mut lists)?;

@@ -1,6 +1,7 @@
 // Broadcasts through the bus.
 
-ghost use Rattle.std.specs.Prelude.{◌≡◌, MatchResult};
+ghost use Rattle.std.specs.Prelude.{◌≡◌, IfOk, MatchResult};
+ghost use Rattle.passes.specs.Passes.{IsOpenTo};
 ghost use Rattle.passes.specs.Routes.{HasRouted, HasRoutedToSome, IsUnrouted};
 
 use crate::bus::Bus;
@@ -31,7 +32,8 @@ impl<B: Naming, M: Mailbox, R: Wait + Drop> Bus<B, M, R> {
     ) -> Result<ArrayVec<u64, MAX_RECIPIENTS>, BusError>
         // The view is that of the bytes.
         requires { view.now ≡ bytes.now }
-        ensures { MatchResult result (λ refused. HasRoutedToSome M.outbox_of source bytes.now pass.old refused.items pass.new) (λ error. IsUnrouted M.outbox_of error pass.old pass.new) }
+        ensures routed { MatchResult result (λ refused. HasRoutedToSome M.outbox_of source bytes.now pass.old refused.items pass.new) (λ error. IsUnrouted M.outbox_of error pass.old pass.new) }
+        ensures open { IfOk result (λ _. IsOpenTo source pass.old) }
     {
         let mut lists = RouteLists::new();
         self.route_into(rt, alloc, pass, source, view, bytes, &mut lists)?;
@@ -52,7 +54,8 @@ impl<B: Naming, M: Mailbox, R: Wait + Drop> Bus<B, M, R> {
     ) -> Result<(), BusError>
         // The view is that of the bytes.
         requires { view.now ≡ bytes.now }
-        ensures { MatchResult result (λ _. HasRouted M.outbox_of source bytes.now pass.old lists.new.recipients.items lists.new.refused.items pass.new) (λ error. IsUnrouted M.outbox_of error pass.old pass.new) }
+        ensures routed { MatchResult result (λ _. HasRouted M.outbox_of source bytes.now pass.old lists.new.recipients.items lists.new.refused.items pass.new) (λ error. IsUnrouted M.outbox_of error pass.old pass.new) }
+        ensures open { IfOk result (λ _. IsOpenTo source pass.old) }
     {
         pass.broadcast(rt, alloc, source, view, bytes, lists)
     }

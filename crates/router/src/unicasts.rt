@@ -1,6 +1,6 @@
 // Unicast messages through the bus.
 
-ghost use Rattle.std.specs.Prelude.{MatchResult};
+ghost use Rattle.std.specs.Prelude.{◌≡◌, false, IfOk, MatchResult};
 ghost use Rattle.passes.specs.Unicasts.{Unicasts, IsUnsent};
 
 use crate::bus::Bus;
@@ -25,7 +25,8 @@ impl<B: Naming, M: Mailbox, R: Wait + Drop> Bus<B, M, R> {
         to: &str,
         bytes: &Bytes,
     ) -> Result<Sent, BusError>
-        ensures { MatchResult result (λ sent. Unicasts M.outbox_of to.now bytes.now pass.old sent pass.new) (λ error. IsUnsent M.outbox_of error pass.old pass.new) }
+        ensures sent { MatchResult result (λ sent. Unicasts M.outbox_of to.now bytes.now pass.old sent pass.new) (λ error. IsUnsent M.outbox_of error pass.old pass.new) }
+        ensures open { IfOk result (λ _. pass.old.is_closed ≡ false) }
     {
         pass.send_to(rt, alloc, Source::Own, to, bytes)
     }

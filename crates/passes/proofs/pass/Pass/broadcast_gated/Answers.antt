@@ -4,8 +4,8 @@ use Rattle.passes.specs.Passes.{sender_of}
 use Rattle.passes.proofs.Sending.{answered}
 use Rattle.passes.proofs.pass.Pass.broadcast_gated.Goals as goal
 
-pub returns : goal.returns
-returns g c =
+pub returns-clause-routed : goal.returns-clause-routed
+returns-clause-routed g c =
     answered _ g.M.Mailbox.outbox_of c.args.source c.sender-from.result c.args.bytes.now c.args.self.now c.enter.new.self c.take_sender-sender.new.self c.leave.new.self c.put_back.new.self c.in_ok-visit.visit c.state.result.now
     c.take_sender-sender.result c.seat_recipients-seated.new.sender c.route-answer.new.sender c.seat_recipients-seated.new.recipients.items c.route-answer.new.refused.items c.route-answer.result
     (record {

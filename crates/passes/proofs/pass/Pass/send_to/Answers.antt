@@ -4,8 +4,8 @@ use Rattle.passes.proofs.pass.Pass.send_to.Goals as goal
 pub deliver-answer-requires : goal.deliver-answer-requires
 deliver-answer-requires g c = its_seat _ c.seat_owner-seated.result _ _ _ c.seat_owner-seated.ensures.owner
 
-pub returns : goal.returns
-returns g c =
+pub returns-clause-sent : goal.returns-clause-sent
+returns-clause-sent g c =
     delivered _ g.M.Mailbox.outbox_of c.args.to.now c.args.bytes.now c.args.self.now c.enter.new.self c.take_sender-sender.new.self c.leave.new.self c.put_back.new.self c.in_ok-visit.visit c.state.result.now
     c.take_sender-sender.result c.seat_owner-seated.new.sender c.deliver-answer.new.sender c.seat_owner-seated.result c.deliver-answer.result
     (record {
