@@ -1,5 +1,7 @@
 -- What is put to a client.
-use Rattle.std.proofs.Common.{◌≡◌, ℕ, Bool, true, false, not, List, [], ◌∷◌, Some, Result, Ok, Err, ⊎_elim, inr, refl, sym, ap, subst, ◌∙◌, true≢false, Bor}
+use Rattle.std.specs.Prelude.{MatchResult}
+use Rattle.std.proofs.Common.{◌≡◌, ℕ, Bool, true, false, not, List, [], ◌∷◌, None, Some, Result, Ok, Err, ⊎_elim, inr, refl, sym, ap, subst, ◌∙◌, true≢false, Bor}
+use Rattle.outbox.specs.Items.{Item}
 use Rattle.signature.specs.DataType.{array, basic}
 use Rattle.message_value.specs.Value.{Values, elements, text, one_value}
 use Rattle.message_build.specs.Adding.{string_values, with_argument}
@@ -12,11 +14,12 @@ use Rattle.bus_messages.specs.declared.error_name.ErrorName.{ErrorName}
 use Rattle.bus_messages.specs.declared.error_name.ErrorName.TheVariants as names
 use Rattle.router.specs.Passes.{PassState}
 use Rattle.peers.specs.declared.error.AnswerError.{AnswerError}
+use Rattle.peers.specs.declared.error.AnswerError.TheVariants.{Slow}
 use Rattle.peers.specs.declared.identity.Identity.{Identity}
 use Rattle.peers.specs.declared.refused.Refused.{Refused}
 use Rattle.peers.specs.declared.refused.Refused.TheVariants.{Error}
 use Rattle.peers.specs.declared.request.Request.{Request}
-use Rattle.peers.specs.Answers.{after_own_put, after_refusal, IsPut, IsEither, AnswersIf, IsAnswered, IsRefused, after_serial, fault_asked, reply_with, text_with, texts_with, text_values, fault_with}
+use Rattle.peers.specs.Answers.{after_own_put, after_refusal, IsPut, IsEither, TurnsAwayIf, AnswersIf, IsAnswered, IsRefused, after_serial, fault_asked, reply_with, text_with, texts_with, text_values, fault_with}
 use Rattle.peers.specs.Holdings.{HoldingsState}
 use Rattle.peers.specs.LentTexts.{lent_texts}
 use Rattle.peers.specs.PeerState.{OwnState, PeerState}
@@ -46,6 +49,12 @@ texts_are serial to request texts = ap (λ (values : Values). with_argument (rep
 pub not_false : (b : Bool) → not b ≡ false → b ≡ true
 not_false true e = refl
 not_false false e = absurd (true≢false e)
+
+pub turned_away : (request : Request) (name : ErrorName) (item : Item) (own new : OwnState) (result : Result (Unit {0}) AnswerError) → request.wants_answer ≡ true → item.mark ≡ None
+    → IsEither (error_asked 1 None request.serial name) (error_asked 1 None request.serial names.NoMemory) item.bytes
+    → MatchResult result (λ _. new ≡ after_own_put item own) (λ error. (error ≡ Slow) × (new ≡ after_refusal error own)) → TurnsAwayIf request.wants_answer request name own result new
+turned_away request name item own new (Ok x) wants mark bytes put = subst (λ b. TurnsAwayIf b request name own (Ok x) new) (sym wants) (item, mark, bytes, put)
+turned_away request name item own new (Err error) wants mark bytes put = subst (λ b. TurnsAwayIf b request name own (Err error) new) (sym wants) put.1
 
 module _ {M : Type 0} where
   -- what is put by a peer that is seen as another record of the same, and whose bytes are so for another reason

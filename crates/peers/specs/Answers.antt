@@ -1,5 +1,5 @@
 -- What calls are answered (D-Bus Specification, "Message Format").
-use Rattle.std.specs.Prelude.{ℕ, ◌≡◌, ◌⊎◌, ◌++◌, Bool, true, false, List, [], ◌∷◌, Some, None, Result, Ok, Err, IfErr}
+use Rattle.std.specs.Prelude.{ℕ, ◌≡◌, ◌⊎◌, ◌++◌, Bool, true, false, List, [], ◌∷◌, Some, None, Result, Ok, Err, IfErr, codes}
 use Rattle.outbox.specs.Items.{Item}
 use Rattle.signature.specs.DataType.{array, basic}
 use Rattle.message_value.specs.Value.{Values, elements, text, no_values, one_value}
@@ -13,12 +13,18 @@ use Rattle.bus_messages.specs.declared.body.Body.TheVariants.{Nothing}
 use Rattle.bus_messages.specs.declared.error_name.ErrorName.{ErrorName}
 use Rattle.bus_messages.specs.declared.error_name.ErrorName.TheVariants as names
 use Rattle.peers.specs.declared.error.AnswerError.{AnswerError}
-use Rattle.peers.specs.declared.error.AnswerError.TheVariants.{NoMemory, Slow}
+use Rattle.peers.specs.declared.error.AnswerError.TheVariants.{NoMemory, Slow, Monitor}
 use Rattle.peers.specs.declared.request.Request.{Request}
 use Rattle.peers.specs.declared.refused.Refused.{Refused}
 use Rattle.peers.specs.declared.refused.Refused.TheVariants.{Error, Ended}
 use Rattle.peers.specs.PeerState.{OwnState, PeerState, name_of}
 use Rattle.peers.specs.Serials.{serial_after}
+
+-- what is printed of an error
+abbrev pub answer_error_name : AnswerError → List ℕ
+answer_error_name Slow = codes "Slow"
+answer_error_name NoMemory = codes "NoMemory"
+answer_error_name Monitor = codes "Monitor"
 
 -- what is known of an outbox after a put that ended so: one for which there is no room shuts it, and has it written out
 abbrev pub after_refusal : AnswerError → OwnState → OwnState
@@ -28,6 +34,11 @@ after_refusal _ own = own
 -- after a put of this message
 abbrev pub after_own_put : Item → OwnState → OwnState
 after_own_put item own = record own { put = own.put ++ item ∷ []; is_waiting = true }
+
+-- One message more was put to the client by this outbox, whose bytes are so; or nothing was put.
+abbrev pub IsOwnPut : (List ℕ → Type 0) → OwnState → Result (Unit {0}) AnswerError → OwnState → Type 0
+IsOwnPut P own (Ok _) new = (item : Item) × (item.mark ≡ None) × P item.bytes × (new ≡ after_own_put item own)
+IsOwnPut P own (Err error) new = new ≡ after_refusal error own
 
 -- that there is no room is said only of an outbox that is known to be shut
 abbrev pub IsShutIf : AnswerError → OwnState → Type 0
@@ -58,6 +69,12 @@ fault_with serial to request name = error_asked serial (Some to) request.serial 
 -- the bytes are those of one of two messages
 abbrev pub IsEither : Asked → Asked → List ℕ → Type 0
 IsEither asked other bytes = AreAsked asked bytes ⊎ AreAsked other bytes
+
+-- A Hello is refused with just this error, or with the error NoMemory in its place, if its caller waits for an answer. It is the
+-- first message of the bus to the client, which has no name yet that it could go to.
+abbrev pub TurnsAwayIf : Bool → Request → ErrorName → OwnState → Result (Unit {0}) AnswerError → OwnState → Type 0
+TurnsAwayIf false request name own result new = (result ≡ Ok tt) × (new ≡ own)
+TurnsAwayIf true request name own result new = IsOwnPut (IsEither (error_asked 1 None request.serial name) (error_asked 1 None request.serial names.NoMemory)) own result new
 
 module _ {M : Type 0} where
   -- a session ends for want of room only where the client's outbox is known to be shut

@@ -18,11 +18,11 @@ use Rattle.peers.specs.Queries.{RepliesText}
 use Rattle.peers.specs.Refusals.{refusal_of}
 
 module _ {M : Type 0} where
-  -- The pass is connected: the published history gains just its Connect, for a handle of the client's mailbox. Or the bus
-  -- refuses, as where no more may be connected, or memory for the handle was refused; then nothing is published.
-  abbrev pub Joins : PassState M → Publication M → Result (Unit {0}) Refused → PassState M → Publication M → Type 0
-  Joins v before (Ok _) w next = (mailbox : M) × (reply : Reply) × Connects v before mailbox (Ok reply) w next
-  Joins v before (Err why) w next =
+  -- The pass is connected: the published history gains just its Connect, for a mailbox of the client's own outbox. Or the bus
+  -- refuses, as where no more may be connected, or memory for the mailbox was refused; then nothing is published.
+  abbrev pub Joins : (M → OutboxId) → OutboxId → PassState M → Publication M → Result (Unit {0}) Refused → PassState M → Publication M → Type 0
+  Joins outbox_of outbox v before (Ok _) w next = (mailbox : M) × (reply : Reply) × (outbox_of mailbox ≡ outbox) × Connects v before mailbox (Ok reply) w next
+  Joins outbox_of outbox v before (Err why) w next =
       ((why ≡ Error NoMemory) × (w ≡ v) × (next ≡ before)) ⊎ ((mailbox : M) × (error : BusError) × Connects v before mailbox (Err error) w next × (why ≡ refusal_of error))
 
   -- The call is answered with the client's name, and then the name is announced. The result is the first error of these.

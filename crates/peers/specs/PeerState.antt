@@ -1,15 +1,17 @@
 -- What clauses see of a client on the bus (own).
 use Rattle.std.specs.Prelude.{ℕ, Bool, false, List}
 use Rattle.outbox.specs.Items.{Item}
+use Rattle.outbox.specs.Seated.{OutboxId}
 use Rattle.unique_name.specs.UniqueNames.{unique_name}
 use Rattle.router.specs.Passes.{PassState}
 use Rattle.router.specs.Routes.{pass_written}
 use Rattle.peers.specs.declared.identity.Identity.{Identity}
 use Rattle.peers.specs.Holdings.{HoldingsState}
 
--- the messages that the bus put to the client itself, in order; whether the client's outbox is known to be shut; and whether
--- what was put there, or refused, waits to be written out
+-- the client's outbox; the messages that the bus put to the client itself, in order; whether the outbox is known to be shut; and
+-- whether what was put there, or refused, waits to be written out
 pub record OwnState : Type 0 where
+  pub outbox : OutboxId
   pub put : List Item
   pub knows_shut : Bool
   pub is_waiting : Bool

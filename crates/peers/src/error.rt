@@ -15,6 +15,11 @@ pub enum AnswerError {
 }
 
 impl fmt::Display for AnswerError {
+    ghost use Rattle.std.specs.Prelude.{Some};
+    ghost use Rattle.peers.specs.Answers.{answer_error_name};
+
+    ghost output = { λ error. Some (answer_error_name error) };
+
     fn fmt<W: fmt::Write>(&self, f: &mut fmt::Formatter<W>) -> fmt::Result {
         f.write_str(match self {
             AnswerError::Slow => "Slow",

@@ -1,7 +1,7 @@
 // How a client joins the bus, and what Hello is answered.
 
-ghost use Rattle.std.specs.Prelude.{◌≡◌, false, IsOk};
-ghost use Rattle.peers.specs.Answers.{UnlessShut};
+ghost use Rattle.std.specs.Prelude.{IfErr};
+ghost use Rattle.peers.specs.Answers.{IsShutIf, TurnsAwayIf, UnlessShut};
 ghost use Rattle.peers.specs.Arrival.{Joins, Registers};
 
 use crate::answers::error_bytes;
@@ -27,7 +27,7 @@ pub fn join<B: Naming, M: Mailbox, R: Wait + Drop>(
     pass: &mut Pass<B, M>,
     own: &OwnOutbox<M>,
 ) -> Result<(), Refused>
-    ensures { Joins pass.old control.old result pass.new control.new }
+    ensures { Joins M.outbox_of own.now.outbox pass.old control.old result pass.new control.new }
 {
     let mailbox = own.share()?;
     match control.connect(pass, mailbox) {
@@ -47,7 +47,8 @@ pub fn put_refusal<B: Naming, M: Mailbox, W: Wait, R: Wait + Drop>(
     request: Request,
     name: ErrorName,
 ) -> Result<(), AnswerError>
-    ensures { request.wants_answer ≡ false → IsOk result }
+    ensures answer { TurnsAwayIf request.wants_answer request name own.old result own.new }
+    ensures slow { IfErr result (λ error. IsShutIf error own.new) }
 {
     if !request.wants_answer {
         return Ok(());

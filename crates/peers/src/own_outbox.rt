@@ -1,6 +1,6 @@
 // The outbox of a client, as its own session puts messages there.
 
-ghost use Rattle.std.specs.Prelude.{◌≡◌, [], false, true, None, IfErr, MatchBool, MatchResult};
+ghost use Rattle.std.specs.Prelude.{◌≡◌, [], false, true, None, IfErr, IfOk, IsTrue, MatchBool, MatchResult};
 ghost use Rattle.peers.specs.Answers.{IsShutIf, after_own_put, after_refusal};
 
 use crate::error::AnswerError;
@@ -11,7 +11,7 @@ use std::marker::Model;
 use std::sync::Wait;
 
 /// A client's own mailbox, and a seat at its outbox. All that is written to the client goes through this outbox.
-/// Contracts see what was put by this seat, in order, whether the outbox is known to be shut, and whether anything waits there to
+/// Contracts see the outbox, what was put by this seat, in order, whether the outbox is known to be shut, and whether anything waits there to
 /// be written out.
 #[derive(Drop)]
 pub struct OwnOutbox<M: Mailbox> {
@@ -27,7 +27,7 @@ impl<M: Mailbox> Model for OwnOutbox<M> {
 
     ghost Value = { OwnState };
 
-    ghost view = { λ o. record { put = o.seat.view.put; knows_shut = o.seat.knows_shut; is_waiting = o.is_waiting } };
+    ghost view = { λ o. record { outbox = o.seat.outbox; put = o.seat.view.put; knows_shut = o.seat.knows_shut; is_waiting = o.is_waiting } };
 
     ghost invariant = { λ o. o.seat.outbox ≡ M.outbox_of o.mailbox };
 }
@@ -35,7 +35,8 @@ impl<M: Mailbox> Model for OwnOutbox<M> {
 impl<M: Mailbox> OwnOutbox<M> {
     /// What goes through the outbox of this mailbox. Nothing is put yet.
     pub fn new(mailbox: M) -> OwnOutbox<M>
-        ensures { (result.put ≡ []) × (result.is_waiting ≡ false) }
+        ensures new { (result.put ≡ []) × (result.is_waiting ≡ false) }
+        ensures outbox { result.outbox ≡ M.outbox_of mailbox }
     {
         let seat = mailbox.outbox().seat();
         OwnOutbox {
@@ -46,7 +47,9 @@ impl<M: Mailbox> OwnOutbox<M> {
     }
 
     /// Another handle of the mailbox, for the bus.
-    pub fn share(&self) -> Result<M, AllocError> {
+    pub fn share(&self) -> Result<M, AllocError>
+        ensures { IfOk result (λ mailbox. M.outbox_of mailbox ≡ self.now.outbox) }
+    {
         self.mailbox.share()
     }
 
@@ -72,9 +75,10 @@ impl<M: Mailbox> OwnOutbox<M> {
         self.mailbox.outbox().tally()
     }
 
-    /// Whether the outbox was shut, since a message found no room.
+    /// Whether the outbox was shut, since a message found no room. Once shut it stays so.
     pub fn is_shut(&mut self) -> bool
-        ensures { MatchBool result (self.new ≡ record self.old { knows_shut = true }) (self.new ≡ self.old) }
+        ensures shut { MatchBool result (self.new ≡ record self.old { knows_shut = true }) (self.new ≡ self.old) }
+        ensures stays { self.old.knows_shut ≡ true → IsTrue result }
     {
         self.mailbox.outbox().is_shut(&mut self.seat)
     }

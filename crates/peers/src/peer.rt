@@ -1,6 +1,6 @@
 // A client that has said Hello.
 
-ghost use Rattle.std.specs.Prelude.{◌≡◌, true, MatchBool};
+ghost use Rattle.std.specs.Prelude.{◌≡◌, true, IsTrue, MatchBool};
 ghost use Rattle.peers.specs.Holdings.{nothing_held};
 ghost use Rattle.peers.specs.PeerState.{PeerState, peer_written};
 
@@ -96,9 +96,10 @@ impl<B: Naming, M: Mailbox> Peer<B, M> {
         self.pass.reclaim()
     }
 
-    /// Whether the client's outbox was shut, since a message found no room.
+    /// Whether the client's outbox was shut, since a message found no room. Once shut it stays so.
     pub fn is_shut(&mut self) -> bool
-        ensures { MatchBool result (self.new ≡ record self.old { own = record self.old.own { knows_shut = true } }) (self.new ≡ self.old) }
+        ensures shut { MatchBool result (self.new ≡ record self.old { own = record self.old.own { knows_shut = true } }) (self.new ≡ self.old) }
+        ensures stays { self.old.own.knows_shut ≡ true → IsTrue result }
     {
         self.own.is_shut()
     }
