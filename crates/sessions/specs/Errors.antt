@@ -1,5 +1,6 @@
 -- The numbers and names of the errors that end a session (own).
-use Rattle.std.specs.Prelude.{ℕ, List, codes}
+use Rattle.std.specs.Prelude.{ℕ, ◌++◌, List, codes}
+use Rattle.message_value.specs.Errors.{name_of as fault_name}
 use Rattle.frames.specs.declared.error.FrameError.{FrameError}
 use Rattle.frames.specs.declared.error.FrameError.TheVariants as frame_errors
 use Rattle.peers.specs.declared.error.AnswerError.{AnswerError}
@@ -26,6 +27,11 @@ name_of Write = codes "Write"
 name_of Slow = codes "Slow"
 name_of NoMemory = codes "NoMemory"
 name_of Monitor = codes "Monitor"
+
+-- what is printed of an error: its name, and after it that of a message's fault
+abbrev pub text_of : SessionError → List ℕ
+text_of (Message fault) = codes "Message " ++ fault_name fault
+text_of error = name_of error
 
 -- what ends a session whose bytes aren't kept
 abbrev pub error_of_frame : FrameError → SessionError

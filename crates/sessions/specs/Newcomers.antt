@@ -1,5 +1,6 @@
 -- A client that has just joined the bus (own).
 use Rattle.std.specs.Prelude.{◌≡◌, List, Ok}
+use Rattle.outbox.specs.Seated.{OutboxId}
 use Rattle.router.specs.Calls.{Once, Connects}
 use Rattle.router.specs.Command.{Command}
 use Rattle.router.specs.Passes.{PassState, new_pass}
@@ -8,10 +9,10 @@ use Rattle.peers.specs.Holdings.{nothing_held}
 use Rattle.peers.specs.PeerState.{PeerState}
 
 module _ {M : Type 0} where
-  -- a pass that was connected, with a mailbox, and did nothing else
-  abbrev pub HasJoined : PassState M → Type 0
-  HasJoined w = (seen : List (Command M)) × (mailbox : M) × (reply : Reply) × Once (λ before next. Connects (new_pass seen) before mailbox (Ok reply) w next)
+  -- a pass that was connected, with a mailbox of this outbox, and did nothing else
+  abbrev pub HasJoined : (M → OutboxId) → OutboxId → PassState M → Type 0
+  HasJoined outbox_of outbox w = (seen : List (Command M)) × (mailbox : M) × (reply : Reply) × (outbox_of mailbox ≡ outbox) × Once (λ before next. Connects (new_pass seen) before mailbox (Ok reply) w next)
 
-  -- a peer of such a pass, for which the bus has made no message yet, and which has taken nothing of it
-  abbrev pub IsNewcomer : PeerState M → Type 0
-  IsNewcomer v = HasJoined v.pass × (v.serial ≡ 1) × (v.holdings ≡ nothing_held)
+  -- a peer of such a pass, whose own outbox it is, for which the bus has made no message yet, and which has taken nothing of it
+  abbrev pub IsNewcomer : (M → OutboxId) → PeerState M → Type 0
+  IsNewcomer outbox_of v = HasJoined outbox_of v.own.outbox v.pass × (v.serial ≡ 1) × (v.holdings ≡ nothing_held)

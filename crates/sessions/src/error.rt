@@ -65,6 +65,11 @@ impl SessionError {
 }
 
 impl fmt::Display for SessionError {
+    ghost use Rattle.std.specs.Prelude.{Some};
+    ghost use Rattle.sessions.specs.Errors.{text_of};
+
+    ghost output = { λ error. Some (text_of error) };
+
     fn fmt<W: fmt::Write>(&self, f: &mut fmt::Formatter<W>) -> fmt::Result {
         match self {
             SessionError::Message(fault) => write!(f, "Message {fault}"),

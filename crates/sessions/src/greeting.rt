@@ -31,7 +31,7 @@ pub(crate) fn greet<B: Naming, M: Mailbox, W: Wait, R: Wait + Drop>(
     identity: Identity,
     view: &View<'_>,
 ) -> Result<Peer<B, M>, (SessionError, OwnOutbox<M>)>
-    ensures peer { IfOk result (λ peer. IsNewcomer peer) }
+    ensures peer { IfOk result (λ peer. IsNewcomer M.outbox_of peer) }
     ensures hello { IfOk result (λ _. (m : Message) → Valid view.now m → is_hello m ≡ true) }
 {
     if !is_hello(view) {
@@ -81,7 +81,7 @@ fn connect_pass<B: Naming, M: Mailbox, W: Wait, R: Wait + Drop>(
     own: &OwnOutbox<M>,
     view: &View<'_>,
 ) -> Result<Pass<B, M>, Refused>
-    ensures { IfOk result (λ pass. HasJoined pass) }
+    ensures { IfOk result (λ pass. HasJoined M.outbox_of own.now.outbox pass) }
 {
     let _ = Call::read(context.alloc, view)?;
     let mut pass = new_pass(context, lent)?;
