@@ -1,5 +1,5 @@
 -- The bytes of the next message among those that are there.
-use Rattle.std.proofs.Common.{◌≡◌, ℕ, List, ◌++◌, take, drop, Option, Some, None, Bor, Result, Ok, Err, inr, sym, ap, subst, ◌∙◌}
+use Rattle.std.proofs.Common.{◌≡◌, ℕ, List, ◌++◌, drop, Option, Some, None, Bor, Result, Ok, Err, inr, sym, ap, subst, ◌∙◌}
 use Rattle.std.specs.Prelude.{IfOk, IfSome, IfNone}
 use Rattle.std.proofs.lemmas.List.{take-append-drop}
 use Rattle.message_value.specs.declared.error.MsgError.{MsgError}

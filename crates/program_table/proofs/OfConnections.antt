@@ -5,7 +5,7 @@ use Rattle.std.proofs.lemmas.Bool.Decides.{nat_tests}
 use Rattle.std.specs.List.{list_all}
 use Rattle.std.proofs.lemmas.Bool.{and_from, and_parts}
 use Rattle.owners.specs.Queues as queues
-use Rattle.owners.specs.Queues.{Claim, is_claim, has_flag, do_not_queue, may_replace, has_claim, without, without_all, with_flags, with_last, after_replacement, after_requesting, requested_by, first_claim}
+use Rattle.owners.specs.Queues.{Claim, is_claim, has_flag, do_not_queue, may_replace, has_claim, without, with_flags, with_last, after_replacement, requested_by, first_claim}
 use Rattle.entry_table.specs.declared.entry.Entry.{Entry}
 use Rattle.entry_table.specs.declared.entry.Filter.{Filter}
 use Rattle.entry_table.specs.Entries.{is_of, is_entry}

@@ -1,6 +1,5 @@
-use Rattle.std.proofs.Common.{sym, ap, ◌∙◌, ℕ}
+use Rattle.std.proofs.Common.{sym, ap, ◌∙◌}
 use Rattle.std.specs.Prelude.{Some, None, find}
-use Rattle.entry_table.specs.declared.entry.Entry.{Entry}
 use Rattle.entry_table.specs.declared.search.Wanted.TheVariants.{RuleAfter}
 use Rattle.entry_table.specs.Entries.{Entries, is_rule_after}
 use Rattle.entry_table.specs.Searching.{entries_of}

@@ -1,5 +1,4 @@
-use Rattle.std.proofs.Common.{◌≡◌, Bool, Some, sym, ap, ◌∙◌}
-use Rattle.std.specs.Prelude.{Ok}
+use Rattle.std.proofs.Common.{Bool, Some, sym, ap, ◌∙◌}
 use Rattle.program_table.specs.declared.refusal.Refusal.TheVariants.{QueueFull}
 use Rattle.program_table.specs.Refusals.{refuse_if}
 use Rattle.program_table.specs.Capacities.{slot_within}
