@@ -1,1 +1,2 @@
 pub mod Talk
+pub mod Errors

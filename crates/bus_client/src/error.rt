@@ -23,6 +23,11 @@ pub enum ClientError {
 }
 
 impl fmt::Display for ClientError {
+    ghost use Rattle.std.specs.Prelude.{Some};
+    ghost use Rattle.bus_client.specs.Errors.{client_error_text};
+
+    ghost output = { λ error. Some (client_error_text error) };
+
     fn fmt<W: fmt::Write>(&self, f: &mut fmt::Formatter<W>) -> fmt::Result {
         match self {
             ClientError::Socket => f.write_str("socket"),

@@ -100,6 +100,12 @@ impl CallError {
 }
 
 impl fmt::Display for CallError {
+    ghost use Rattle.std.specs.Prelude.{Some};
+    ghost use Rattle.bus_messages.specs.CallErrors.{error_name_of};
+    ghost use Rattle.bus_messages.specs.ErrorNames.{word_of};
+
+    ghost output = { λ error. Some (word_of (error_name_of error)) };
+
     fn fmt<W: fmt::Write>(&self, f: &mut fmt::Formatter<W>) -> fmt::Result {
         f.write_str(self.error_name().word())
     }

@@ -1,2 +1,3 @@
 pub mod Printable
 pub mod Escaped
+pub mod Errors

@@ -14,6 +14,11 @@ pub enum TextError {
 }
 
 impl fmt::Display for TextError {
+    ghost use Rattle.std.specs.Prelude.{Some};
+    ghost use Rattle.value_text.specs.Errors.{text_error_text};
+
+    ghost output = { λ error. Some (text_error_text error) };
+
     fn fmt<W: fmt::Write>(&self, f: &mut fmt::Formatter<W>) -> fmt::Result {
         match self {
             TextError::Message(fault) => write!(f, "{fault}"),
