@@ -62,14 +62,19 @@ module _ {M : Type 0} where
       let off : is_accepted (after l) x ≡ false = refused (after l) x k.refusal said in
       let more : l ≡ with_next l x = ap (λ (b : Bool). if b then l ++ x ∷ [] else l) (sym off) in
       inl ([], inl (turned_down v w l before before v.connection v.took x k.refusal error told_history count said more k.error_is), tt)
-  turned v before rule error taken legal a (inr (inl k)) = inr (record {
+  turned v before rule error taken legal a (inr (inl k)) = inr (inl (record {
     weight = k.weight;
     answers = ap (λ (e : BusError). let r : Result Reply BusError = Err e in r) k.error_is;
     admitted = a;
     fits = k.fits;
     stopped = stopped v before a;
-  })
-  turned v before rule error taken legal a (inr (inr k)) = inl ([], inr (stopped v before a, inr k), tt)
+  }))
+  turned v before rule error taken legal a (inr (inr k)) = inr (inr (record {
+    answers = ap (λ (e : BusError). let r : Result Reply BusError = Err e in r) k;
+    admitted = a;
+    stopped = stopped v before a;
+    goes_on = a.not_ended;
+  }))
 
   -- it wasn't compiled
   pub not_compiled : (v u : PassState M) (before : Publication M) (connection : ℕ) (rule : RuleTree) (error : BusError) (result : Result Reply BusError) → HasTaken v

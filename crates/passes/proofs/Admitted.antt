@@ -51,13 +51,13 @@ module _ {M : Type 0} where
   told_history : PassState M → Publication M → PassState M
   told_history v before = record v { seen = before.history }
 
-  shut_out : (v : PassState M) (before next : Publication M) → IsShutOut (told_history v before) before next → IsShutOut v before next
+  shut_out : (v : PassState M) (before : Publication M) → IsShutOut (told_history v before) before → IsShutOut v before
   unfolding told_history
-  shut_out v before next (unconnected e) = unconnected e
-  shut_out v before next (closed e) = closed e
-  shut_out v before next (ended e) = ended e
-  shut_out v before next (others e) = others e
-  shut_out v before next (fewer e) = absurd (omega (arith, e))
+  shut_out v before (unconnected e) = unconnected e
+  shut_out v before (closed e) = closed e
+  shut_out v before (ended e) = ended e
+  shut_out v before (others e) = others e
+  shut_out v before (fewer e) = absurd (omega (arith, e))
 
   answers : (v w : PassState M) (before next : Publication M) (command : Command M) (result : Result Reply BusError) → HasTaken v → IsHistory before.history → IsAdmitted v before
       → Answers false (told_history v before) before command result w next → Answers false v before command result w next
@@ -91,7 +91,7 @@ module _ {M : Type 0} where
   )
   answers v w before next command (Err error) taken legal a (inr h) = inr (
     record { begins = prefix_on v.seen before.history w.seen a.begins h.0.begins; same = h.0.same; published = h.0.published },
-    elim h.1 [ inl k ↦ inl (k.0, shut_out v before next k.1) | inr k ↦ inr k ],
+    elim h.1 [ inl k ↦ inl (k.0, shut_out v before k.1) | inr k ↦ inr k ],
   )
 
   -- what it asks for is answered as if the pass that was admitted had asked

@@ -57,17 +57,17 @@ module _ {M : Type 0} where
     pub all : length (own_commands v.connection w.seen) ≡ w.took
 
   -- why a call is Closed, whatever the state says
-  pub data IsShutOut (v : PassState M) (before next : Publication M) : Type 0 where
+  pub data IsShutOut (v : PassState M) (before : Publication M) : Type 0 where
     -- the pass was never connected
-    unconnected : v.connection ≡ 0 → IsShutOut v before next
+    unconnected : v.connection ≡ 0 → IsShutOut v before
     -- its close was accepted
-    closed : v.is_closed ≡ true → IsShutOut v before next
+    closed : v.is_closed ≡ true → IsShutOut v before
     -- the bus has ended
-    ended : next.has_ended ≡ true → IsShutOut v before next
+    ended : before.has_ended ≡ true → IsShutOut v before
     -- other commands of its connection are published than it took
-    others : commands_of v.connection (after before.history).connections ≢ v.took → IsShutOut v before next
+    others : commands_of v.connection (after before.history).connections ≢ v.took → IsShutOut v before
     -- fewer commands are published than it has seen
-    fewer : length before.history < length v.seen → IsShutOut v before next
+    fewer : length before.history < length v.seen → IsShutOut v before
 
   -- Nothing was published, and the pass has seen at least what it had.
   pub record IsStopped (v : PassState M) (before : Publication M) (w : PassState M) (next : Publication M) : Type 0 where
@@ -75,9 +75,13 @@ module _ {M : Type 0} where
     pub same : w ≡ record v { seen = w.seen }
     pub published : next.history ≡ before.history
 
-  -- it was stopped for want of memory, or shut out
+  -- memory was refused to what would be published, which ends the bus
+  abbrev pub EndsBus : Publication M → BusError → Publication M → Type 0
+  EndsBus before error next = (error ≡ errors.NoMemory) × (before.has_ended ≡ false) × (next.has_ended ≡ true)
+
+  -- it was shut out, or has ended the bus
   abbrev pub IsClosed : PassState M → Publication M → BusError → PassState M → Publication M → Type 0
-  IsClosed v before error w next = IsStopped v before w next × (((error ≡ errors.Closed) × IsShutOut v before next) ⊎ (error ≡ errors.NoMemory))
+  IsClosed v before error w next = IsStopped v before w next × (((error ≡ errors.Closed) × IsShutOut v before) ⊎ EndsBus before error next)
 
   -- a call that publishes a command of the pass's connection
   abbrev pub Answers : Bool → PassState M → Publication M → Command M → Result Reply BusError → PassState M → Publication M → Type 0
@@ -85,27 +89,27 @@ module _ {M : Type 0} where
   Answers closes v before command (Err error) w next = (IsRefused v before command error w next × KeepsOwn v w) ⊎ IsClosed v before error w next
 
   -- why a limit is Closed: the bus has ended, or accepts no more commands
-  abbrev pub TakesNoLimit : Capacity → Publication M → Publication M → Type 0
-  TakesNoLimit most before next = (next.has_ended ≡ true) ⊎ (is_accepted (after before.history) (Limit most) ≡ false)
+  abbrev pub TakesNoLimit : Capacity → Publication M → Type 0
+  TakesNoLimit most before = (before.has_ended ≡ true) ⊎ (is_accepted (after before.history) (Limit most) ≡ false)
 
   -- how much there may be is told by the next command, or nothing changes
   abbrev pub Limits : Capacity → Publication M → Result (Unit {0}) BusError → Publication M → Type 0
   Limits most before (Ok _) next = next.history ≡ before.history ++ Limit most ∷ []
-  Limits most before (Err error) next = (next.history ≡ before.history) × ((error ≡ errors.NoMemory) ⊎ ((error ≡ errors.Closed) × TakesNoLimit most before next))
+  Limits most before (Err error) next = (next.history ≡ before.history) × (((error ≡ errors.Closed) × TakesNoLimit most before) ⊎ EndsBus before error next)
 
   -- why a Connect is Closed, whatever the state says
-  pub data IsPast (v : PassState M) (before next : Publication M) : Type 0 where
+  pub data IsPast (v : PassState M) (before : Publication M) : Type 0 where
     -- the pass was connected already
-    connected : v.connection ≢ 0 → IsPast v before next
+    connected : v.connection ≢ 0 → IsPast v before
     -- its close was accepted
-    closed : v.is_closed ≡ true → IsPast v before next
+    closed : v.is_closed ≡ true → IsPast v before
     -- the bus has ended
-    ended : next.has_ended ≡ true → IsPast v before next
+    ended : before.has_ended ≡ true → IsPast v before
     -- fewer commands are published than it has seen
-    fewer : length before.history < length v.seen → IsPast v before next
+    fewer : length before.history < length v.seen → IsPast v before
 
   -- the call that makes the pass's connection
   abbrev pub Connects : PassState M → Publication M → M → Result Reply BusError → PassState M → Publication M → Type 0
   Connects v before mailbox (Ok reply) w next = IsDone v before (Connect mailbox) reply w next × (reply ≡ Connected w.connection) × (w.is_closed ≡ false)
   Connects v before mailbox (Err error) w next =
-      IsRefused v before (Connect mailbox) error w next ⊎ (IsStopped v before w next × (((error ≡ errors.Closed) × IsPast v before next) ⊎ (error ≡ errors.NoMemory)))
+      IsRefused v before (Connect mailbox) error w next ⊎ (IsStopped v before w next × (((error ≡ errors.Closed) × IsPast v before) ⊎ EndsBus before error next))

@@ -32,10 +32,10 @@ module _ {M : Type 0} where
     pub some : v.connection ≢ 0 → 0 < v.took
     pub own : v.took ≤ length (own_commands v.connection v.seen)
 
--- a pass whose close was accepted sends nothing of its own
+-- a pass that was never connected sends nothing, and one whose close was accepted nothing of its own
 abbrev pub IsOpenTo : {M : Type 0} → Source → PassState M → Type 0
-IsOpenTo Own v = v.is_closed ≡ false
-IsOpenTo Bus v = Unit {0}
+IsOpenTo Own v = (v.connection ≢ 0) × (v.is_closed ≡ false)
+IsOpenTo Bus v = v.connection ≢ 0
 
 -- the sender of the message that a pass asks for. None is the bus.
 abbrev pub sender_of : Source → ℕ → Option ℕ

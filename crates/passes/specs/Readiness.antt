@@ -19,4 +19,4 @@ module _ {M : Type 0} where
   -- a pass is admitted, or Closed
   abbrev pub Admits : PassState M → Publication M → Result (Unit {0}) BusError → PassState M → Type 0
   Admits v before (Ok _) w = IsAdmitted v before × (w ≡ record v { seen = before.history }) × IsReady w before × HasTaken v
-  Admits v before (Err error) w = (error ≡ errors.Closed) × IsStopped v before w before × IsShutOut v before before
+  Admits v before (Err error) w = (error ≡ errors.Closed) × IsStopped v before w before × IsShutOut v before

@@ -52,13 +52,20 @@ module _ {M : Type 0} where
     pub fits : (program : List Ins) → is_accepted (after before.history) (add_of (after before.history) v.connection rule program) ≡ true
     pub stopped : IsStopped v before w next
 
+  -- Memory was refused to the compiler. Nothing shuts the pass out, nothing was published, and the bus goes on.
+  pub record IsUncompiled (v : PassState M) (before : Publication M) (result : Result Reply BusError) (w : PassState M) (next : Publication M) : Type 0 where
+    pub answers : result ≡ Err errors.NoMemory
+    pub admitted : IsAdmitted v before
+    pub stopped : IsStopped v before w next
+    pub goes_on : next.has_ended ≡ false
+
   -- the rule is to be added with the program that it compiles to
   abbrev pub AddsRule : RuleTree → PassState M → Publication M → Result Reply BusError → PassState M → Publication M → Type 0
   AddsRule rule v before result w next =
       ((program : List Ins)
       × Answers false v before (AddRule v.connection (compiled_in (after before.history) rule program)) result w next
       × IfOk result (λ _. IsFit (compiled_in (after before.history) rule program)))
-      ⊎ IsTooLong rule v before result w next
+      ⊎ (IsTooLong rule v before result w next ⊎ IsUncompiled v before result w next)
 
   -- AddMatch: the text reads as a rule, which is to be added
   abbrev pub AddsMatch : List ℕ → PassState M → Publication M → Result Reply BusError → PassState M → Publication M → Type 0

@@ -109,6 +109,11 @@ impl BusError {
 }
 
 impl fmt::Display for BusError {
+    ghost use Rattle.std.specs.Prelude.{Some};
+    ghost use Rattle.passes.specs.Errors.{bus_error_text};
+
+    ghost output = { λ error. Some (bus_error_text error) };
+
     fn fmt<W: fmt::Write>(&self, f: &mut fmt::Formatter<W>) -> fmt::Result {
         match self {
             BusError::NoMemory => f.write_str("NoMemory"),

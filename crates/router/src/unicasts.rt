@@ -1,6 +1,7 @@
 // Unicast messages through the bus.
 
-ghost use Rattle.std.specs.Prelude.{◌≡◌, false, IfOk, MatchResult};
+ghost use Rattle.std.specs.Prelude.{IfOk, MatchResult};
+ghost use Rattle.passes.specs.Passes.{IsOpenTo};
 ghost use Rattle.passes.specs.Unicasts.{Unicasts, IsUnsent};
 
 use crate::bus::Bus;
@@ -26,7 +27,7 @@ impl<B: Naming, M: Mailbox, R: Wait + Drop> Bus<B, M, R> {
         bytes: &Bytes,
     ) -> Result<Sent, BusError>
         ensures sent { MatchResult result (λ sent. Unicasts M.outbox_of to.now bytes.now pass.old sent pass.new) (λ error. IsUnsent M.outbox_of error pass.old pass.new) }
-        ensures open { IfOk result (λ _. pass.old.is_closed ≡ false) }
+        ensures open { IfOk result (λ _. IsOpenTo Source.Own pass.old) }
     {
         pass.send_to(rt, alloc, Source::Own, to, bytes)
     }
