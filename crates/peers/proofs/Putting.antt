@@ -1,6 +1,6 @@
 -- What is put to a client.
 use Rattle.std.specs.Prelude.{MatchResult}
-use Rattle.std.proofs.Common.{◌≡◌, ℕ, Bool, true, false, not, List, [], ◌∷◌, None, Some, Result, Ok, Err, ⊎_elim, inr, refl, sym, ap, subst, ◌∙◌, true≢false, Bor}
+use Rattle.std.proofs.Common.{◌≡◌, ℕ, Bool, true, false, not, List, [], ◌∷◌, None, Some, Result, Ok, Err, ⊎_elim, inl, inr, refl, sym, ap, subst, ◌∙◌, true≢false, Bor}
 use Rattle.outbox.specs.Items.{Item}
 use Rattle.signature.specs.DataType.{array, basic}
 use Rattle.message_value.specs.Value.{Values, elements, text, one_value}
@@ -54,13 +54,13 @@ pub turned_away : (request : Request) (name : ErrorName) (item : Item) (own new 
     → IsEither (error_asked 1 None request.serial name) (error_asked 1 None request.serial names.NoMemory) item.bytes
     → MatchResult result (λ _. new ≡ after_own_put item own) (λ error. (error ≡ Slow) × (new ≡ after_refusal error own)) → TurnsAwayIf request.wants_answer request name own result new
 turned_away request name item own new (Ok x) wants mark bytes put = subst (λ b. TurnsAwayIf b request name own (Ok x) new) (sym wants) (item, mark, bytes, put)
-turned_away request name item own new (Err error) wants mark bytes put = subst (λ b. TurnsAwayIf b request name own (Err error) new) (sym wants) put.1
+turned_away request name item own new (Err error) wants mark bytes put = subst (λ b. TurnsAwayIf b request name own (Err error) new) (sym wants) (inl put.0, put.1)
 
 module _ {M : Type 0} where
   -- what is put by a peer that is seen as another record of the same, and whose bytes are so for another reason
   pub put_as : (P Q : List ℕ → Type 0) (u v : PeerState M) (result : Result (Unit {0}) AnswerError) (w : PeerState M) → u ≡ v → ((bytes : List ℕ) → P bytes → Q bytes) → IsPut P u result w → IsPut Q v result w
   put_as P Q u v (Ok x) w e f (item, mark, p, is) = (item, mark, f item.bytes p, is ∙ ap (λ (s : PeerState M). record s { own = after_own_put item s.own }) e)
-  put_as P Q u v (Err x) w e f is = is ∙ ap (λ (s : PeerState M). record s { own = after_refusal x s.own }) e
+  put_as P Q u v (Err x) w e f (why, is) = (why, is ∙ ap (λ (s : PeerState M). record s { own = after_refusal x s.own }) e)
 
   no_memory_if : (wants : Bool) (request : Request) (asked : Asked) (v : PeerState M) (result : Result (Unit {0}) AnswerError) (w : PeerState M) → AnswersIf wants request (fault_asked v request names.NoMemory) v result w → AnswersIf wants request asked v result w
   no_memory_if false request asked v result w h = h

@@ -35,10 +35,14 @@ after_refusal _ own = own
 abbrev pub after_own_put : Item → OwnState → OwnState
 after_own_put item own = record own { put = own.put ++ item ∷ []; is_waiting = true }
 
+-- why a message isn't put: there is no room for it, or no memory
+abbrev pub IsUnput : AnswerError → Type 0
+IsUnput error = (error ≡ Slow) ⊎ (error ≡ NoMemory)
+
 -- One message more was put to the client by this outbox, whose bytes are so; or nothing was put.
 abbrev pub IsOwnPut : (List ℕ → Type 0) → OwnState → Result (Unit {0}) AnswerError → OwnState → Type 0
 IsOwnPut P own (Ok _) new = (item : Item) × (item.mark ≡ None) × P item.bytes × (new ≡ after_own_put item own)
-IsOwnPut P own (Err error) new = new ≡ after_refusal error own
+IsOwnPut P own (Err error) new = IsUnput error × (new ≡ after_refusal error own)
 
 -- that there is no room is said only of an outbox that is known to be shut
 abbrev pub IsShutIf : AnswerError → OwnState → Type 0
@@ -88,7 +92,7 @@ module _ {M : Type 0} where
   -- One message more was put to the client, whose bytes are so; or nothing was put.
   abbrev pub IsPut : (List ℕ → Type 0) → PeerState M → Result (Unit {0}) AnswerError → PeerState M → Type 0
   IsPut P v (Ok _) w = (item : Item) × (item.mark ≡ None) × P item.bytes × (w ≡ record v { own = after_own_put item v.own })
-  IsPut P v (Err error) w = w ≡ record v { own = after_refusal error v.own }
+  IsPut P v (Err error) w = IsUnput error × (w ≡ record v { own = after_refusal error v.own })
 
   -- one serial is used for a message of the bus
   abbrev pub after_serial : PeerState M → PeerState M

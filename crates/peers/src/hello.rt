@@ -1,6 +1,6 @@
 // How a client joins the bus, and what Hello is answered.
 
-ghost use Rattle.std.specs.Prelude.{IfErr};
+ghost use Rattle.std.specs.Prelude.{◌≡◌, IfErr};
 ghost use Rattle.peers.specs.Answers.{IsShutIf, TurnsAwayIf, UnlessShut};
 ghost use Rattle.peers.specs.Arrival.{Joins, Registers};
 
@@ -49,6 +49,7 @@ pub fn put_refusal<B: Naming, M: Mailbox, W: Wait, R: Wait + Drop>(
 ) -> Result<(), AnswerError>
     ensures answer { TurnsAwayIf request.wants_answer request name own.old result own.new }
     ensures slow { IfErr result (λ error. IsShutIf error own.new) }
+    ensures outbox { own.new.outbox ≡ own.old.outbox }
 {
     if !request.wants_answer {
         return Ok(());

@@ -11,8 +11,8 @@ use std::marker::Model;
 use std::sync::Wait;
 
 /// A client's own mailbox, and a seat at its outbox. All that is written to the client goes through this outbox.
-/// Contracts see the outbox, what was put by this seat, in order, whether the outbox is known to be shut, and whether anything waits there to
-/// be written out.
+/// Contracts see the outbox, what was put by this seat, in order, whether the outbox is known to be shut, and whether
+/// anything waits there to be written out.
 #[derive(Drop)]
 pub struct OwnOutbox<M: Mailbox> {
     mailbox: M,
@@ -62,6 +62,7 @@ impl<M: Mailbox> OwnOutbox<M> {
         requires { message.mark ≡ None }
         ensures put { MatchResult result (λ _. self.new ≡ after_own_put message self.old) (λ error. (error ≡ AnswerError.Slow) × (self.new ≡ after_refusal error self.old)) }
         ensures slow { IfErr result (λ error. IsShutIf error self.new) }
+        ensures outbox { self.new.outbox ≡ self.old.outbox }
     {
         self.is_waiting = true;
         match self.mailbox.outbox().put(rt, &mut self.seat, message) {

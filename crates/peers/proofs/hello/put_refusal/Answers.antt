@@ -1,4 +1,4 @@
-use Rattle.std.proofs.Common.{◌≡◌, ℕ, None, Err, refl, sym, ap, subst, ◌∙◌}
+use Rattle.std.proofs.Common.{◌≡◌, ℕ, None, Err, inr, refl, sym, ap, subst, ◌∙◌}
 use Rattle.outbox.specs.Items.{Item}
 use Rattle.bus_messages.specs.Sent.{error_asked}
 use Rattle.bus_messages.specs.declared.error_name.ErrorName.TheVariants.{NoMemory}
@@ -16,4 +16,4 @@ returns-in-Ok-clause-answer g c =
     (subst built first (subst (IsEither _ _) (sym bytes) c.in_ok-bytes.ensures.built)) c.put.ensures.put
 
 pub returns-in-Err-clause-answer : goal.returns-in-Err-clause-answer
-returns-in-Err-clause-answer g c = subst (λ b. TurnsAwayIf b c.args.request c.args.name c.args.own.now (Err errors.NoMemory) c.args.own.now) (sym (not_false _ c.if-not-request.false)) refl
+returns-in-Err-clause-answer g c = subst (λ b. TurnsAwayIf b c.args.request c.args.name c.args.own.now (Err errors.NoMemory) c.args.own.now) (sym (not_false _ c.if-not-request.false)) (inr refl, refl)
