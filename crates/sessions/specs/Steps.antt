@@ -16,7 +16,7 @@ use Rattle.peers.specs.PeerState.{PeerState}
 use Rattle.sessions.specs.Errors.{error_of_answer}
 use Rattle.sessions.specs.Hello.{is_hello}
 use Rattle.sessions.specs.Newcomers.{IsNewcomer}
-use Rattle.sessions.specs.SessionState.{SessionState}
+use Rattle.sessions.specs.SessionState.{SessionState, outbox_after}
 use Rattle.sessions.specs.declared.error.SessionError.{SessionError}
 use Rattle.sessions.specs.declared.error.SessionError.TheVariants.{Message as faulty, NoMemory, Slow}
 use Rattle.sessions.specs.declared.step.Step.{Step}
@@ -37,7 +37,7 @@ abbrev pub Hears : List ℕ → Standing → Standing → Bool → Type 0
 Hears line standing later has_begun = ((talk standing line).standing ≡ later) × (IsTrue has_begun ↔ (later.stage ≡ Begun))
 
 module _ {M : Type 0} where
-  -- The client's outbox is found to be shut, and nothing else has changed. Before Hello clauses don't see its outbox.
+  -- The client's outbox is found to be shut, and nothing else has changed. Before Hello clauses don't see what its outbox has.
   abbrev pub IsFoundShut : Option (PeerState M) → Option (PeerState M) → Type 0
   IsFoundShut None peer = peer ≡ None
   IsFoundShut (Some v) peer = peer ≡ Some (record v { own = record v.own { knows_shut = true } })
@@ -48,18 +48,18 @@ module _ {M : Type 0} where
   IsShutIf (Some v) _ = Unit {0}
   IsShutIf None error = Unit {0}
 
-  -- A message is handled by the client's peer. The first one makes the peer, whose name it is answered with, if it is Hello;
-  -- or it makes none, and the session ends.
-  abbrev pub Takes : (M → OutboxId) → Shares → List ℕ → Option (PeerState M) → Result (Unit {0}) SessionError → Option (PeerState M) → Type 0
-  Takes outbox_of shares message (Some v) result peer = (w : PeerState M) × (handled : Result (Unit {0}) AnswerError) × Handles outbox_of shares message v handled w × (peer ≡ Some w) × (result ≡ outcome_of handled)
-  Takes outbox_of shares message None result None = IsErr result
-  Takes outbox_of shares message None result (Some w) =
+  -- A message is handled by the client's peer. The first one makes the peer, whose name it is answered with, if it is Hello, and the
+  -- peer has the client's outbox; or it makes none, and the session ends.
+  abbrev pub Takes : (M → OutboxId) → Shares → List ℕ → Option OutboxId → Option (PeerState M) → Result (Unit {0}) SessionError → Option (PeerState M) → Type 0
+  Takes outbox_of shares message outbox (Some v) result peer = (w : PeerState M) × (handled : Result (Unit {0}) AnswerError) × Handles outbox_of shares message v handled w × (peer ≡ Some w) × (result ≡ outcome_of handled)
+  Takes outbox_of shares message outbox None result None = IsErr result
+  Takes outbox_of shares message outbox None result (Some w) =
       (v : PeerState M) × (request : Request) × (registered : Result (Unit {0}) AnswerError)
-      × IsNewcomer outbox_of v × ((m : Message) → Valid message m → (is_hello m ≡ true) × IsRequestOf m request) × Registers outbox_of request v registered w × (result ≡ outcome_of registered)
+      × IsNewcomer outbox_of v × (outbox ≡ Some v.own.outbox) × ((m : Message) → Valid message m → (is_hello m ≡ true) × IsRequestOf m request) × Registers outbox_of request v registered w × (result ≡ outcome_of registered)
 
   -- this message comes next in the client's bytes; it is handled, and then taken from them
   abbrev pub HandlesNext : (M → OutboxId) → Shares → List ℕ → SessionState M → SessionState M → Type 0
-  HandlesNext outbox_of shares message v w = IsMessage message × (v.unread ≡ message ++ w.unread) × Takes outbox_of shares message v.peer (Ok tt) w.peer × (w ≡ record v { unread = w.unread; peer = w.peer })
+  HandlesNext outbox_of shares message v w = IsMessage message × (v.unread ≡ message ++ w.unread) × Takes outbox_of shares message v.outbox v.peer (Ok tt) w.peer × (w ≡ record v { unread = w.unread; outbox = outbox_after w.peer v.outbox; peer = w.peer })
 
   -- The next message is handled; no whole one is there; or the session ends, by the
   -- fault of the bytes in a message's place, or by what handling the message came to.
@@ -68,7 +68,7 @@ module _ {M : Type 0} where
   TakesMessage outbox_of shares v (Ok Waits) w = (BeginsWithMessage v.unread → ⊥) × (w ≡ v)
   TakesMessage outbox_of shares v (Err error) w =
       (IsFaultOf v.unread error × (w ≡ v))
-      ⊎ ((message rest : List ℕ) × IsMessage message × (v.unread ≡ message ++ rest) × Takes outbox_of shares message v.peer (Err error) w.peer × (w ≡ record v { peer = w.peer }))
+      ⊎ ((message rest : List ℕ) × IsMessage message × (v.unread ≡ message ++ rest) × Takes outbox_of shares message v.outbox v.peer (Err error) w.peer × (w ≡ record v { outbox = outbox_after w.peer v.outbox; peer = w.peer }))
 
   -- The next line of the talk is heard, and is then no longer there: as many bytes as the talk takes. Or there is none; or
   -- the session ends.

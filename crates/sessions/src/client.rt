@@ -1,7 +1,7 @@
 // The client that a session serves.
 
-ghost use Rattle.std.specs.Prelude.{◌≡◌, None, IfErr, IfSome, MatchBool, is_some};
-ghost use Rattle.sessions.specs.SessionState.{connection_of, client_written};
+ghost use Rattle.std.specs.Prelude.{◌≡◌, None, Some, IfErr, IfSome, MatchBool, is_some};
+ghost use Rattle.sessions.specs.SessionState.{connection_of, client_written, outbox_after};
 ghost use Rattle.sessions.specs.Steps.{IsFoundShut, IsShutIf, Takes, outcome_of};
 ghost use Rattle.sessions.specs.Subjects.{IsSubjectOf, MayHaveSeen};
 
@@ -17,7 +17,7 @@ use std::collections::LinkedList;
 use std::marker::Model;
 use std::sync::{Arc, Wait};
 
-/// A client: its outbox before Hello, then its peer, which has the outbox. Contracts see the peer.
+/// A client: its outbox before Hello, then its peer, which has the outbox. Contracts see which outbox it is, and the peer.
 #[derive(Drop)]
 pub(crate) struct Client<B: Naming, M: Mailbox>
 where
@@ -36,21 +36,21 @@ impl<B: Naming, M: Mailbox> Model for Client<B, M>
 where
     Published: Protocol<Shown<B, M>, LinkedList<Command<M>>>,
 {
-    ghost use Rattle.std.specs.Prelude.{◌≡◌, Option, None, true, is_some};
-    ghost use Rattle.peers.specs.PeerState.{PeerState};
+    ghost use Rattle.std.specs.Prelude.{◌≡◌, None, true, is_some};
+    ghost use Rattle.sessions.specs.SessionState.{ClientState, own_outbox};
 
-    ghost Value = { Option (PeerState M) };
+    ghost Value = { ClientState M };
 
-    ghost view = { λ c. c.peer };
+    ghost view = { λ c. record { outbox = own_outbox c.own; peer = c.peer } };
 
     // An outbox of its own is that of a client without a peer.
-    ghost invariant = { λ c. is_some c.own ≡ true → c.peer ≡ None };
+    ghost invariant = { λ c. (is_some c.own ≡ true → c.peer ≡ None) × (is_some c.peer ≡ true → c.own ≡ None) };
 }
 
 impl<B: Naming, M: Mailbox> Client<B, M> {
     /// A client that has said nothing. All that it gets goes to the mailbox.
     pub(crate) fn new(mailbox: M, identity: Identity) -> Client<B, M>
-        ensures { result ≡ None }
+        ensures { result ≡ record { outbox = Some (M.outbox_of mailbox); peer = None } }
     {
         Client {
             own: Some(OwnOutbox::new(mailbox)),
@@ -90,14 +90,14 @@ impl<B: Naming, M: Mailbox> Client<B, M> {
 
     /// Whether Hello was accepted.
     pub(crate) fn is_connected(&self) -> bool
-        ensures { result ≡ is_some self.now }
+        ensures { result ≡ is_some self.now.peer }
     {
         self.peer.is_some()
     }
 
     /// The number of its connection, once Hello was accepted.
     pub(crate) fn number(&self) -> Option<u64>
-        ensures { result ≡ connection_of self.now }
+        ensures { result ≡ connection_of self.now.peer }
     {
         match &self.peer {
             Some(peer) => Some(peer.connection()),
@@ -107,7 +107,8 @@ impl<B: Naming, M: Mailbox> Client<B, M> {
 
     /// Whether the client's outbox was shut, since a message found no room.
     pub(crate) fn is_shut(&mut self) -> bool
-        ensures { MatchBool result (IsFoundShut self.old self.new) (self.new ≡ self.old) }
+        ensures shut { MatchBool result (IsFoundShut self.old.peer self.new.peer) (self.new ≡ self.old) }
+        ensures same { self.new ≡ record self.old { peer = self.new.peer } }
     {
         if let Some(own) = &mut self.own {
             return own.is_shut();
@@ -120,8 +121,9 @@ impl<B: Naming, M: Mailbox> Client<B, M> {
 
     /// The other connection that a call of the bus is about. `None` before Hello.
     pub(crate) fn subject_of(&mut self, view: &View<'_>) -> Option<u64>
-        ensures looked { MayHaveSeen self.old self.new }
-        ensures subject { IfSome result (λ number. IsSubjectOf view.now self.new number) }
+        ensures looked { MayHaveSeen self.old.peer self.new.peer }
+        ensures same { self.new ≡ record self.old { peer = self.new.peer } }
+        ensures subject { IfSome result (λ number. IsSubjectOf view.now self.new.peer number) }
     {
         let peer = self.peer.as_mut()?;
         peer.subject_of(view)
@@ -138,8 +140,9 @@ impl<B: Naming, M: Mailbox> Client<B, M> {
         lists: &mut RouteLists,
         view: &View<'_>,
     ) -> Result<(), SessionError>
-        ensures takes { Takes M.outbox_of context.now.shares view.now self.old result self.new }
-        ensures slow { IfErr result (λ error. IsShutIf self.new error) }
+        ensures takes { Takes M.outbox_of context.now.shares view.now self.old.outbox self.old.peer result self.new.peer }
+        ensures outbox { self.new.outbox ≡ outbox_after self.new.peer self.old.outbox }
+        ensures slow { IfErr result (λ error. IsShutIf self.new.peer error) }
     {
         match &mut self.peer {
             Some(peer) => {
@@ -157,9 +160,10 @@ impl<B: Naming, M: Mailbox> Client<B, M> {
         lists: &mut RouteLists,
         view: &View<'_>,
     ) -> Result<(), SessionError>
-        requires { self.old ≡ None }
-        ensures takes { Takes M.outbox_of context.now.shares view.now None result self.new }
-        ensures slow { IfErr result (λ error. IsShutIf self.new error) }
+        requires { self.old.peer ≡ None }
+        ensures takes { Takes M.outbox_of context.now.shares view.now self.old.outbox None result self.new.peer }
+        ensures outbox { self.new.outbox ≡ outbox_after self.new.peer self.old.outbox }
+        ensures slow { IfErr result (λ error. IsShutIf self.new.peer error) }
     {
         let Some(own) = self.own.take() else {
             return Err(SessionError::NoHello);
@@ -183,7 +187,7 @@ impl<B: Naming, M: Mailbox> Client<B, M> {
 
     /// Writes out what was put, to the client and to others.
     pub(crate) fn push_out<W: Wait>(&mut self, rt: &W)
-        ensures { self.new ≡ client_written self.old }
+        ensures { self.new ≡ record self.old { peer = client_written self.old.peer } }
     {
         if let Some(own) = &mut self.own {
             own.push_out(rt);
@@ -195,7 +199,7 @@ impl<B: Naming, M: Mailbox> Client<B, M> {
 
     /// Gives up the client, and keeps its peer.
     pub(crate) fn into_peer(self) -> Option<Peer<B, M>>
-        ensures { result ≡ self }
+        ensures { result ≡ self.peer }
     {
         let Client { peer, .. } = self;
         peer

@@ -1,6 +1,6 @@
 // The first message of a session, which has to be Hello.
 
-ghost use Rattle.std.specs.Prelude.{◌≡◌, true, IfOk};
+ghost use Rattle.std.specs.Prelude.{◌≡◌, true, IfOk, MatchResult};
 ghost use Rattle.message_view.specs.Message.{Message, interface_of, member_of};
 ghost use Rattle.message_view.specs.Valid.{Valid};
 ghost use Rattle.peers.specs.Handling.{names_bus};
@@ -33,6 +33,7 @@ pub(crate) fn greet<B: Naming, M: Mailbox, W: Wait, R: Wait + Drop>(
 ) -> Result<Peer<B, M>, (SessionError, OwnOutbox<M>)>
     ensures peer { IfOk result (λ peer. IsNewcomer M.outbox_of peer) }
     ensures hello { IfOk result (λ _. (m : Message) → Valid view.now m → is_hello m ≡ true) }
+    ensures outbox { MatchResult result (λ peer. peer.own.outbox ≡ own.outbox) (λ refused. refused.1.outbox ≡ own.outbox) }
 {
     if !is_hello(view) {
         return Err((SessionError::NoHello, own));

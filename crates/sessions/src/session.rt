@@ -30,7 +30,7 @@ const METHOD_CALL: u8 = 1;
 
 /// One client's session: the talk, then messages, of which the first is Hello. What it answers, and what others send to
 /// its client, waits in the outbox of its mailbox. Contracts see where the talk stands, the bytes that wait to be handled,
-/// the client's peer, and why the session ends.
+/// the client's outbox before Hello, the client's peer, and why the session ends.
 #[derive(Drop)]
 pub struct Session<B: Naming, M: Mailbox>
 where
@@ -52,7 +52,7 @@ where
 
     ghost Value = { SessionState M };
 
-    ghost view = { λ s. record { standing = s.talk.auth; has_begun = s.talk.has_begun; unread = s.input.unread; peer = s.client; fault = s.fault } };
+    ghost view = { λ s. record { standing = s.talk.auth; has_begun = s.talk.has_begun; unread = s.input.unread; outbox = s.client.outbox; peer = s.client.peer; fault = s.fault } };
 
     // The faults of messages are kept in the session's own fault, and not in its frames.
     ghost invariant = { λ s. s.input.fault ≡ None };
@@ -62,7 +62,7 @@ impl<B: Naming, M: Mailbox> Session<B, M> {
     /// A session before its first byte, of a bus with this GUID. It admits EXTERNAL for anybody, and ANONYMOUS. All that
     /// it says goes to the mailbox.
     pub fn new(alloc: Global, guid: [u8; 32], mailbox: M) -> Session<B, M>
-        ensures { result ≡ new_session (record { guid = guid; admission = any_admission }) }
+        ensures { result ≡ new_session (M.outbox_of mailbox) (record { guid = guid; admission = any_admission }) }
     {
         let identity = Identity {
             guid,
@@ -79,7 +79,7 @@ impl<B: Naming, M: Mailbox> Session<B, M> {
         admission: Admission,
         mailbox: M,
     ) -> Session<B, M>
-        ensures { result ≡ new_session (record { guid = identity.guid; admission = admission }) }
+        ensures { result ≡ new_session (M.outbox_of mailbox) (record { guid = identity.guid; admission = admission }) }
     {
         Session {
             talk: Talk::admitting(identity.guid, admission),

@@ -53,6 +53,7 @@ impl Talk {
         ensures within { IfOk result (λ taken. taken ≤ length bytes.now) }
         ensures taken { IfOk result (λ taken. taken ≡ taken_of self.old.auth bytes.now) }
         ensures heard { IfOk result (λ taken. Hears (take taken bytes.now) self.old.auth self.new.auth self.new.has_begun) }
+        ensures outbox { own.new.outbox ≡ own.old.outbox }
     {
         let Ok(fed) = self.auth.feed(bytes) else {
             return Err(SessionError::Auth);
@@ -68,7 +69,9 @@ fn put_answer<M: Mailbox, W: Wait>(
     alloc: Global,
     own: &mut OwnOutbox<M>,
     answer: &[u8],
-) -> Result<(), SessionError> {
+) -> Result<(), SessionError>
+    ensures { own.new.outbox ≡ own.old.outbox }
+{
     if answer.is_empty() {
         return Ok(());
     }
