@@ -40,7 +40,8 @@ abbrev pub connection_of : {M : Type 0} → Option (PeerState M) → Option ℕ
 connection_of (Some v) = Some v.pass.connection
 connection_of None = None
 
--- nothing that was put, to the client or to others, waits to be written out any more. Before Hello clauses don't see what its outbox has.
+-- Nothing that was put, to the client or to others, waits to be written out any more. Before Hello clauses don't see what its
+-- outbox has.
 abbrev pub client_written : {M : Type 0} → Option (PeerState M) → Option (PeerState M)
 client_written None = None
 client_written (Some v) = Some (peer_written v)

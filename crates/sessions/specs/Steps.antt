@@ -37,7 +37,8 @@ abbrev pub Hears : List ℕ → Standing → Standing → Bool → Type 0
 Hears line standing later has_begun = ((talk standing line).standing ≡ later) × (IsTrue has_begun ↔ (later.stage ≡ Begun))
 
 module _ {M : Type 0} where
-  -- The client's outbox is found to be shut, and nothing else has changed. Before Hello clauses don't see what its outbox has.
+  -- The client's outbox is found to be shut, and nothing else has changed. Before Hello clauses don't see what its outbox
+  -- has.
   abbrev pub IsFoundShut : Option (PeerState M) → Option (PeerState M) → Type 0
   IsFoundShut None peer = peer ≡ None
   IsFoundShut (Some v) peer = peer ≡ Some (record v { own = record v.own { knows_shut = true } })
