@@ -1,9 +1,9 @@
 -- What a talk comes to by the bytes of one line.
-use Rattle.std.proofs.Common.{◌≡◌, ℕ, ◌+◌, ◌-◌, ◌<◌, ◌≤◌, Bool, true, false, cond, List, [], ◌∷◌, ◌++◌, take, drop, length, refl, sym, ap, subst, ◌∙◌, arith, length-append}
+use Rattle.std.proofs.Common.{◌≡◌, ℕ, ◌+◌, ◌-◌, ◌≤◌, Bool, true, false, cond, List, [], ◌∷◌, ◌++◌, take, drop, length, refl, sym, ap, subst, ◌∙◌, arith, length-append}
 use Rattle.std.specs.Prelude.{nat_lt, nat_le}
 use Rattle.std.proofs.lemmas.Bool.Decides.{nat_tests}
 use Rattle.std.proofs.lemmas.List.{append_assoc, append-nil, take-append-drop, length-take-le}
-use Rattle.std.proofs.Math.Seq.{take-length, take-add}
+use Rattle.std.proofs.Math.Seq.{take-add}
 use Rattle.auth.specs.declared.stage.Stage.{Stage}
 use Rattle.auth.specs.declared.stage.Stage.TheVariants.{Failed}
 use Rattle.auth.specs.declared.stage.Reply.{Reply}
@@ -61,17 +61,6 @@ all_bytes line bytes longer n t =
     ∙ sym (append_assoc line (take n bytes) (drop n bytes))
     ∙ ap (λ (x : List ℕ). x ++ drop n bytes) (sym t.is)
 
-pub open_len : (line bytes longer : List ℕ) (n : ℕ) → Takes line bytes longer n → n ≡ length bytes → pieces_of longer ≡ whole_piece longer → n ≡ through_line line bytes
-open_len line bytes longer n t all open_line =
-    let whole : line ++ bytes ≡ longer = sym (t.is ∙ ap (λ (k : ℕ). line ++ take k bytes) all ∙ ap (λ (x : List ℕ). line ++ x) (take-length bytes)) in
-    all ∙ sym (ap (len_through (length line) (length bytes)) (ap pieces_of whole ∙ open_line))
-
-pub open_talk : (s : Standing) (bytes longer : List ℕ) (n : ℕ) → Takes s.line bytes longer n → is_over s.stage ≡ false → pieces_of longer ≡ whole_piece longer → length longer < max_line_len → by_lines s (take n bytes) ≡ no_answer (with_line s longer)
-open_talk s bytes longer n t on open_line short =
-    let test : nat_le max_line_len (length longer) ≡ false = grind (arith, nat_tests) in
-    let waits : wait s longer ≡ no_answer (with_line s longer) = rw (on, test) refl in
-    ap (λ (x : List ℕ). talk_in s (pieces_of x)) (sym t.is) ∙ ap (talk_in s) open_line ∙ waits
-
 pub ended_len : (line bytes longer : List ℕ) (n : ℕ) → Takes line bytes longer n → 2 ≤ length longer → pieces_of longer ≡ ended_piece longer → n ≡ through_line line bytes
 ended_len line bytes longer n t long_enough ends =
     let pieces : pieces_of (line ++ bytes) ≡ continue_line (take (length longer - 2) longer) ([] ∷ []) (drop n bytes) =
@@ -118,9 +107,3 @@ ended_fed s bytes longer text n answer t on long_enough ends text_is gives =
     ∙ ap (hear s) (sym text_is)
     ∙ aside
     ∙ gives
-
--- what bytes without a line end come to
-pub open_fed : (s : Standing) (bytes longer : List ℕ) (n : ℕ) → Takes s.line bytes longer n → is_over s.stage ≡ false → n ≡ length bytes → pieces_of longer ≡ whole_piece longer → length longer < max_line_len
-    → by_lines s (take (through_line s.line bytes) bytes) ≡ no_answer (with_line s longer)
-open_fed s bytes longer n t on all open_line short =
-    ap (λ (k : ℕ). by_lines s (take k bytes)) (sym (open_len s.line bytes longer n t all open_line)) ∙ open_talk s bytes longer n t on open_line short

@@ -3,11 +3,11 @@ use Rattle.std.proofs.Common.{◌≡◌, ℕ, ◌+◌, ◌≤◌, Bool, true, fa
 use Rattle.std.specs.Prelude.{nat_lt, nat_le, ◌==◌}
 use Rattle.std.proofs.lemmas.Bool.Decides.{nat_tests}
 use Rattle.auth.specs.declared.command.Command.{Command}
-use Rattle.auth.specs.declared.command.Command.TheVariants.{AskExternal, Begin}
+use Rattle.auth.specs.declared.command.Command.TheVariants.{AskExternal}
 use Rattle.auth.specs.declared.stage.Stage.{Stage}
 use Rattle.auth.specs.declared.stage.Stage.TheVariants.{Opening, Start, Data, Challenged, Ready, Begun, Failed}
 use Rattle.auth.specs.declared.stage.Reply.{Reply}
-use Rattle.auth.specs.declared.stage.Reply.TheVariants.{Nothing, Rejected}
+use Rattle.auth.specs.declared.stage.Reply.TheVariants.{Rejected}
 use Rattle.auth.specs.Lines.{max_line_len, Pieces, pieces_of}
 use Rattle.auth.specs.LineStates.{whole_piece}
 use Rattle.auth.specs.Stages.{max_rejections, is_over, start_row, data_row, challenged_row, ready_row, row_of, reply_bytes}
@@ -178,30 +178,3 @@ in_cuts s front back = go s.stage refl
     go Ready at = by_line_talk (rw at refl)
     go Begun at = by_line_talk (rw at refl)
     go Failed at = by_line_talk (rw at refl)
-
--- ---- a refusal is not answered
-
-start_failed : (command : Command) → (start_row command).stage ≡ Failed → (start_row command).reply ≡ Nothing
-start_failed Begin e = refl
-start_failed _ e = absurd cc
-
-data_failed : (command : Command) → (data_row command).stage ≡ Failed → (data_row command).reply ≡ Nothing
-data_failed Begin e = refl
-data_failed _ e = absurd cc
-
-challenged_failed : (command : Command) → (challenged_row command).stage ≡ Failed → (challenged_row command).reply ≡ Nothing
-challenged_failed Begin e = refl
-challenged_failed _ e = absurd cc
-
-ready_failed : (command : Command) → (ready_row command).stage ≡ Failed → (ready_row command).reply ≡ Nothing
-ready_failed Begin e = refl
-ready_failed _ e = absurd cc
-
-pub row_failed : (stage : Stage) (command : Command) → (row_of stage command).stage ≡ Failed → (row_of stage command).reply ≡ Nothing
-row_failed Opening command e = refl
-row_failed Start command e = start_failed command e
-row_failed Data command e = data_failed command e
-row_failed Challenged command e = challenged_failed command e
-row_failed Ready command e = ready_failed command e
-row_failed Begun command e = refl
-row_failed Failed command e = refl

@@ -7,7 +7,7 @@ use Rattle.std.proofs.lemmas.List.Splits.{slice_split_none, slice_split_first}
 use Rattle.std.proofs.lemmas.List.Sums.{position_or_len_is}
 use Rattle.std.proofs.lemmas.Bool.{false_from_ne_true}
 use Rattle.memchr.specs.Find.{is_byte, Nowhere, NoneBefore, Passes}
-use Rattle.bpf_text.specs.Source.{IsLine, Line, AreLines, lines_of, Label, labels_at, labels_from, count_row, count_of, repeats, IsBadLine}
+use Rattle.bpf_text.specs.Source.{IsLine, Line, AreLines, lines_of, Label, labels_at, labels_from, count_row, count_of, repeats}
 use Rattle.bpf_text.specs.Sketches.{Noted, noted_from, Sketch, sketch_of}
 use Rattle.bpf_text.specs.LineReading.{with_line}
 
@@ -105,15 +105,3 @@ pub read_all : (text rest bytes : List ℕ) (number : ℕ) (old new : Sketch) (l
 read_all text rest bytes number old new line so split is more =
     let all : lines_of text ≡ so.front ++ bytes ∷ [] = so.all ∙ ap (λ (ls : List (List ℕ)). so.front ++ ls) split in
     (so.good ++ line ∷ [], rw all (are_more so.front so.good bytes line so.are is), added so.good line old new so.sketch_is more)
-
-pub read_bad : (text rest bytes : List ℕ) (tail : List (List ℕ)) (number : ℕ) (old : Sketch) → ReadSoFar text rest number old → lines_of rest ≡ bytes ∷ tail → ((line : Line) → ¬ IsLine bytes line) → IsBadLine text number
-read_bad text rest bytes tail number old so split none = record {
-  front = so.front;
-  good = so.good;
-  bad = bytes;
-  tail = tail;
-  all = so.all ∙ ap (λ (ls : List (List ℕ)). so.front ++ ls) split;
-  before = so.are;
-  none = none;
-  number = so.number_is;
-}

@@ -99,9 +99,6 @@ blank_sign sign rest dark = token_after_blank (Sign sign) (sign ∷ rest) rest (
 ended : (tokens : List Token) (bytes : List ℕ) → Front tokens bytes [] → AreTokens tokens bytes
 ended tokens bytes front = record { rest = []; front = front; over = over_nil }
 
-hash_front : (k : ℕ) (rest : List ℕ) → k < 2 ^ 32 → Stops rest → (tail : List ℕ) × (sign_at 35 (32 ∷ 35 ∷ decimal k ++ rest) ≡ Some tail) × (number_at tail ≡ Some (k, rest))
-hash_front k rest low stops = (decimal k ++ rest, blank_sign 35 (decimal k ++ rest) refl, number_printed k rest low stops)
-
 -- [ k ]
 bracket_front : (k : ℕ) (rest : List ℕ) → k < 2 ^ 32 → Front (Sign 91 ∷ Value k ∷ Sign 93 ∷ []) (91 ∷ decimal k ++ 93 ∷ rest) rest
 bracket_front k rest low =

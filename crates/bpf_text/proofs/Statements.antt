@@ -57,10 +57,6 @@ row_complete bytes row s =
     let apart : (is_absent s.operands || begins_blank s.tail) ≡ true = s.apart in
     rw (names, operands, apart) s.means
 
-mapped : (row : Option LabelIns) (x : Option LabelIns) → option_map Some row ≡ Some x → row ≡ x
-mapped None x h = absurd (cc)
-mapped (Some r) x h = same_Some (Some r) x h
-
 by_sound : (bytes : List ℕ) (w : Option (List ℕ × List ℕ)) (row : Option LabelIns) → word_at bytes ≡ w → statement_by bytes w ≡ Some row → IsStatement bytes row
 by_sound bytes None row w h =
     let both = cond_some (is_over bytes) None row h in

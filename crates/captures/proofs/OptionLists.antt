@@ -1,6 +1,6 @@
 -- The options of a list, one after the other.
 use Rattle.std.proofs.Common.{◌≡◌, ℕ, zero, suc, ◌+◌, ◌<◌, ◌≤◌, cond, ltb, List, [], ◌∷◌, length, drop, Result, Ok, Err, refl, ap, ◌∙◌, arith}
-use Rattle.std.proofs.lemmas.Bool.{lt-ltb, le-ltb, eq-eqb, ne_eqb}
+use Rattle.std.proofs.lemmas.Bool.{lt-ltb, le-ltb, ne_eqb}
 use Rattle.captures.specs.declared.order.Order.{Order}
 use Rattle.captures.specs.declared.error.CaptureError.{CaptureError}
 use Rattle.captures.specs.declared.error.CaptureError.TheVariants as faults
@@ -18,11 +18,6 @@ pub ends_with_bytes : (order : Order) (times : Times) (bytes : List ℕ) → len
 ends_with_bytes order times [] few = refl
 ends_with_bytes order times (byte ∷ rest) few = holds _ _ _ (lt-ltb (length (byte ∷ rest)) 4 few)
 
-pub ends_by_code : (order : Order) (times : Times) (bytes : List ℕ) → 4 ≤ length bytes → half order bytes 0 ≡ 0 → times_from order times 0 bytes ≡ Ok times
-ends_by_code order times [] there code = absurd (omega arith)
-ends_by_code order times (byte ∷ rest) there code =
-    fails _ _ _ (le-ltb (length (byte ∷ rest)) 4 there) ∙ holds _ _ _ (eq-eqb (half order (byte ∷ rest) 0) 0 code)
-
 -- an option that isn't the end
 at_option : (order : Order) (times : Times) (byte : ℕ) (rest : List ℕ) → 4 ≤ length (byte ∷ rest) → (half order (byte ∷ rest) 0 ≡ 0 → ⊥)
     → times_from order times 0 (byte ∷ rest) ≡ cond (ltb (length (byte ∷ rest)) (4 + half order (byte ∷ rest) 2)) (Err faults.OptionLength) (and_then (after_option order (byte ∷ rest) times) (λ after. times_from order after (3 + padded_len (half order (byte ∷ rest) 2)) rest))
@@ -33,12 +28,6 @@ pub too_long : (order : Order) (times : Times) (bytes : List ℕ) → 4 ≤ leng
 too_long order times [] there code long = absurd (omega arith)
 too_long order times (byte ∷ rest) there code long =
     at_option order times byte rest there code ∙ holds _ _ _ (lt-ltb (length (byte ∷ rest)) (4 + half order (byte ∷ rest) 2) long)
-
-pub bad_option : (order : Order) (times : Times) (bytes : List ℕ) (fault : CaptureError) → 4 ≤ length bytes → (half order bytes 0 ≡ 0 → ⊥) → 4 + half order bytes 2 ≤ length bytes → after_option order bytes times ≡ Err fault → times_from order times 0 bytes ≡ Err fault
-bad_option order times [] fault there code fits bad = absurd (omega arith)
-bad_option order times (byte ∷ rest) fault there code fits bad =
-    at_option order times byte rest there code ∙ fails _ _ _ (le-ltb (length (byte ∷ rest)) (4 + half order (byte ∷ rest) 2) fits)
-    ∙ ap (λ (x : Result Times CaptureError). and_then x (λ after. times_from order after (3 + padded_len (half order (byte ∷ rest) 2)) rest)) bad
 
 -- after an option come those past its padded_len value
 pub after_one : (order : Order) (times after : Times) (bytes : List ℕ) → 4 ≤ length bytes → (half order bytes 0 ≡ 0 → ⊥) → 4 + half order bytes 2 ≤ length bytes → after_option order bytes times ≡ Ok after

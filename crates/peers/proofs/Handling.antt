@@ -1,10 +1,9 @@
 -- Where a message goes.
-use Rattle.std.proofs.Common.{◌≡◌, ℕ, Bool, true, false, List, Option, Some, Result, Err, refl, sym, subst}
+use Rattle.std.proofs.Common.{◌≡◌, ℕ, Bool, true, false, List, Option, Some, Result, sym, subst}
 use Rattle.outbox.specs.Seated.{OutboxId}
 use Rattle.message_view.specs.Message.{Message, destination_of}
 use Rattle.message_view.specs.Valid.{Valid}
 use Rattle.peers.specs.declared.error.AnswerError.{AnswerError}
-use Rattle.peers.specs.declared.error.AnswerError.TheVariants.{Monitor}
 use Rattle.peers.specs.declared.shares.Shares.{Shares}
 use Rattle.peers.specs.Handling.{HandledAs, HandledOf, Handles, PassesOn, is_for_bus, is_known, is_signal}
 use Rattle.peers.specs.Calling.{HasSent}
@@ -20,13 +19,7 @@ module _ {M : Type 0} where
       let D : Option (List ℕ) → Type 0 = λ o. PassesOn outbox_of bytes true (is_signal m.kind) o v result w in
       subst B (sym f) (subst K (sym k) (subst D (sym d) h))
 
-  -- a message of a client that watches the bus
-  pub handled_watching : (outbox_of : M → OutboxId) (shares : Shares) (bytes : List ℕ) (v : PeerState M) → v.pass.is_closed ≡ true → Handles outbox_of shares bytes v (Err Monitor) v
-  handled_watching outbox_of shares bytes v closed =
-      let P : Bool → Type 0 = λ b. HandledOf outbox_of b shares bytes v (Err Monitor) v in
-      subst P (sym closed) (refl, refl)
-
-  -- that of another client
+  -- a message of a client that doesn't watch the bus
   pub handled_unwatching : (outbox_of : M → OutboxId) (shares : Shares) (bytes : List ℕ) (v w : PeerState M) (result : Result (Unit {0}) AnswerError) → v.pass.is_closed ≡ false → ((m : Message) → Valid bytes m → HandledAs outbox_of shares bytes m (is_for_bus m) v result w)
       → Handles outbox_of shares bytes v result w
   handled_unwatching outbox_of shares bytes v w result is_open h =

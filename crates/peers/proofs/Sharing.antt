@@ -8,7 +8,7 @@ use Rattle.peers.specs.Answers.{IsRefused}
 use Rattle.peers.specs.Holdings.{HoldingsState}
 use Rattle.peers.specs.PeerState.{PeerState}
 use Rattle.peers.specs.Refusals.{beyond}
-use Rattle.peers.specs.Shares.{IsWithin, IsAdmitted, WithinShare, WithinMemory, WithinAll}
+use Rattle.peers.specs.Shares.{IsWithin, WithinShare, WithinMemory}
 
 module _ {M : Type 0} where
   with_room : (exceeded : Option Exceeded) (request : Request) (Does : Type 0) (v w : PeerState M) (result : Result (Unit {0}) AnswerError) → exceeded ≡ None → Does → WithinShare exceeded request Does v result w
@@ -20,9 +20,6 @@ module _ {M : Type 0} where
   -- the peer is seen as another record of the same
   pub within_share : (exceeded : HoldingsState → Option Exceeded) (request : Request) (Does : Type 0) (u v w : PeerState M) (result : Result (Unit {0}) AnswerError) → u ≡ v → exceeded u.holdings ≡ None → Does → WithinShare (exceeded v.holdings) request Does v result w
   within_share exceeded request Does u v w result is e does = with_room (exceeded v.holdings) request Does v w result (ap (λ (s : PeerState M). exceeded s.holdings) (sym is) ∙ e) does
-
-  pub beyond_share : (exceeded : HoldingsState → Option Exceeded) (limit : Exceeded) (request : Request) (Does : Type 0) (u v w : PeerState M) (result : Result (Unit {0}) AnswerError) → u ≡ v → exceeded u.holdings ≡ Some limit → IsRefused request (beyond limit) v result w → WithinShare (exceeded v.holdings) request Does v result w
-  beyond_share exceeded limit request Does u v w result is e refused = without_room (exceeded v.holdings) limit request Does v w result (ap (λ (s : PeerState M). exceeded s.holdings) (sym is) ∙ e) refused
 
   refused_for : (exceeded : Option Exceeded) (request : Request) (Does : Type 0) (why : Refused) (v w : PeerState M) (result : Result (Unit {0}) AnswerError) → IsWithin exceeded (Err why) → IsRefused request why v result w → WithinShare exceeded request (WithinMemory request Does v result w) v result w
   refused_for exceeded request Does why v w result (inl (limit, e, is)) refused =
@@ -39,13 +36,3 @@ module _ {M : Type 0} where
       let S : PeerState M → Type 0 = λ s. WithinShare (exceeded s.holdings) request (WithinMemory request Does s result w) s result w in
       let Q : HoldingsState → Type 0 = λ x. IsRefused request why (record u { holdings = x }) result w in
       subst S is (refused_for (exceeded u.holdings) request Does why u w result within (subst Q h refused))
-
-  -- an Attach that is kept from the bus, so or since all clients together have no room for its instructions
-  pub not_admitted : (exceeded : HoldingsState → Option Exceeded) (request : Request) (Does : Type 0) (why : Refused) (u v w : PeerState M) (held : HoldingsState) (result : Result (Unit {0}) AnswerError) → u ≡ v → held ≡ u.holdings → IsAdmitted (exceeded u.holdings) (Err why)
-      → IsRefused request why (record u { holdings = held }) result w → WithinShare (exceeded v.holdings) request (WithinMemory request (WithinAll request Does v result w) v result w) v result w
-  not_admitted exceeded request Does why u v w held result is h (inl within) refused = kept_out exceeded request (WithinAll request Does v result w) why u v w held result is h within refused
-  not_admitted exceeded request Does why u v w held result is h (inr (e, all)) refused =
-      let S : PeerState M → Type 0 = λ s. WithinShare (exceeded s.holdings) request (WithinMemory request (WithinAll request Does s result w) s result w) s result w in
-      let Q : HoldingsState → Type 0 = λ x. IsRefused request why (record u { holdings = x }) result w in
-      let P : Refused → Type 0 = λ y. IsRefused request y u result w in
-      subst S is (with_room (exceeded u.holdings) request (WithinMemory request (WithinAll request Does u result w) u result w) u w result e (inl (inr (subst P all (subst Q h refused)))))

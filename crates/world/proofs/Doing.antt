@@ -8,16 +8,6 @@ use Rattle.world.specs.IsWorld.{IsWorld, AreDone}
 use Rattle.world.specs.Steps.{IsNext}
 use Rattle.world.proofs.Next.{next_world, next_answer}
 
--- no event is done, and nothing is answered
-pub done_none : (w : WorldState) (answers : List Answer) → AreDone [] w w answers answers
-done_none w answers = record {
-  answers = [];
-  added = sym (append-nil answers);
-  counted = omega arith;
-  world = λ all was. subst (λ events. IsWorld events w) (sym (append-nil all)) was;
-  answered = λ all was. refl;
-}
-
 pub done_one : (event : Event) (before after : WorldState) (answer : Option Answer) (old new : List Answer)
     → IsNext event before after answer → new ≡ old ++ option_to_list answer → AreDone (event ∷ []) before after old new
 done_one event before after answer old new next added = record {
