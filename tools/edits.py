@@ -3,6 +3,7 @@ import re
 import shutil
 import tempfile
 from pathlib import Path
+from typing import NamedTuple
 
 import crates as tree
 
@@ -21,9 +22,21 @@ def modules_of(edit):
     return ["::".join(it.with_suffix("").parts[1:]) for it in files]
 
 
-def body_spans(lines):
-    """The bodies of a file's functions: the name of each, and its first and last line."""
+class Function(NamedTuple):
+    """A function: the type that it is a method of, or None, its name, the line of its head, and those of its body."""
+
+    owner: str | None
+    name: str
+    head: int
+    body: range
+
+
+def functions_of(lines):
+    """The functions of a file."""
+    owner = None
     for at, line in enumerate(lines):
+        block = re.match(r"impl(?:<[^{]*?>)? (?:[\w:<>, ]+ for )?(\w+)", line)
+        owner = block[1] if block else None if line == "}" else owner
         head = re.match(r"(\s*)(?:pub(?:\(\w+\))? )?(?:const )?(?:unsafe )?fn (\w+)", line)
         if not head:
             continue
@@ -33,21 +46,32 @@ def body_spans(lines):
         if not opening and not has_clauses:
             opening = [it for it in range(at, end) if lines[it].endswith("{")]
         if opening:
-            yield head[2], opening[0] + 1, end
+            yield Function(owner, head[2], at, range(opening[0] + 1, end))
 
 
 class Turn:
-    """An edit of one function's body: the module and the function, and the lines that it changes."""
+    """An edit of one function's body: the file and the function, and the lines that it changes."""
 
     def __init__(self, edit, path, function, lines):
         self.edit, self.path, self.function, self.lines = edit, path, function, lines
         self.module = Path(path).with_suffix("").parts[1:]
 
+    def is_beside(self, other):
+        """Whether another edit can be tried in the same check."""
+        return (self.path, self.function.name) != (other.path, other.function.name)
+
     def goals(self, said):
-        """The lines that tell of goals of this function that are open or false."""
-        below = "/".join(["proofs", *self.module])
-        named = re.compile(rf"`[^`]*` of {re.escape(below)}/(\S+/)?{self.function}/\w+\.antt (must prove|may be false|is false)")
-        return [it for it in said if named.search(it)]
+        """The lines that tell of this function that a goal of it is open, by its place in the code, or that a proof of it doesn't
+        fit any more, by the proof's file: a method's stands where its type is, wherever the method does. That a proof names what
+        the edit took away is none of these."""
+        place = re.compile(rf"note: (?:\./)?{re.escape(self.path)}:(\d+):\d+: it is not proved")
+        proof = re.compile(rf"(?:\./)?proofs/(?:\S+/)?{self.function.owner or self.module[-1]}/{self.function.name}/\w+\.antt:\d+:\d+: error: ")
+        names = re.compile(r"has no field|is not in scope|has no `|was not admitted")
+        lines = range(self.function.head + 1, self.function.body.stop + 2)
+        for it in said:
+            found = place.match(it)
+            if found and int(found[1]) in lines or proof.match(it) and not names.search(it):
+                yield it
 
 
 def turn_of(rt, crate, edit):
@@ -60,15 +84,15 @@ def turn_of(rt, crate, edit):
     if not path.startswith("src/") or Path(path).stem in ("lib", "main") or len(was) != len(now):
         return None
     changed = {at: line for at, line in enumerate(now) if line != was[at]}
-    around = [name for name, first, last in body_spans(was) if all(first <= it < last for it in changed)]
+    around = [it for it in functions_of(was) if all(at in it.body for at in changed)]
     return Turn(edit, path, around[-1], changed) if around else None
 
 
 class Tries:
     """Tries edits of a crate. Those of different functions are tried together, in as few checks as there are edits of one
-    function: an edit of a body is refused where the prover names a goal of that very function, since other functions are
-    proved over its contract, which the edit leaves as it was. What isn't refused so is tried alone: first on the functions
-    of the files that it touches, and on those that they call, and last on the whole crate."""
+    function: an edit of a body is refused where the prover tells of that very function that it isn't proved, since other
+    functions are proved over its contract, which the edit leaves as it was. What isn't refused so is tried alone: first on the
+    functions of the files that it touches, and on those that they call, and last on the whole crate."""
 
     def __init__(self, rt, crate, kept):
         self.rt, self.crate, self.kept, self.seed = rt, crate, kept, None
@@ -77,7 +101,7 @@ class Tries:
         """Those of some edits that are refused beside others, with what is said of each."""
         checks = []
         for turn in filter(None, (turn_of(self.rt, self.crate, it) for it in edits)):
-            fits = (it for it in checks if all((turn.path, turn.function) != (other.path, other.function) for other in it))
+            fits = (it for it in checks if all(map(turn.is_beside, it)))
             check = next(fits, None)
             if check is None:
                 checks.append(check := [])
@@ -99,7 +123,7 @@ class Tries:
         if ran.returncode != 1 or not any(it.startswith("logic=not-proved") for it in said):
             return
         for turn in turns:
-            goals = turn.goals(said)
+            goals = [*turn.goals(said)]
             if goals:
                 label = f"must-fail {self.crate.name}/{Path(turn.edit).name}"
                 yield turn.edit, f"{label}: refused, as it must be: {goals[0][:160]}"
