@@ -65,7 +65,8 @@ class Turn:
         fit any more, by the proof's file: a method's stands where its type is, wherever the method does. That a proof names what
         the edit took away is none of these."""
         place = re.compile(rf"note: (?:\./)?{re.escape(self.path)}:(\d+):\d+: it is not proved")
-        proof = re.compile(rf"(?:\./)?proofs/(?:\S+/)?{self.function.owner or self.module[-1]}/{self.function.name}/\w+\.antt:\d+:\d+: error: ")
+        folder = f"{self.function.owner or self.module[-1]}/{self.function.name}"
+        proof = re.compile(rf"(?:\./)?proofs/(?:\S+/)?{folder}/\w+\.antt:\d+:\d+: error: ")
         names = re.compile(r"has no field|is not in scope|has no `|was not admitted")
         lines = range(self.function.head + 1, self.function.body.stop + 2)
         for it in said:
