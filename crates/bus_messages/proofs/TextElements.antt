@@ -17,10 +17,6 @@ abbrev pub lent_values : List (Bor (List ℕ)) → List Value
 lent_values [] = []
 lent_values (string ∷ more) = text string.now ∷ lent_values more
 
-pub nothing_before : (read : Result (List Value) MsgError) → read_before [] read ≡ read
-nothing_before (Ok more) = refl
-nothing_before (Err fault) = refl
-
 lent_more : (strings : List (Bor (List ℕ))) (string : Bor (List ℕ)) → lent_values (strings ++ string ∷ []) ≡ lent_values strings ++ text string.now ∷ []
 lent_more [] string = refl
 lent_more (first ∷ more) string = ap (λ (l : List Value). text first.now ∷ l) (lent_more more string)

@@ -1,10 +1,10 @@
 -- What comes of opening and reading a file.
-use Rattle.std.proofs.Common.{◌≡◌, ℕ, Bool, true, false, List, [], ◌++◌, Err, refl, inl, inr}
+use Rattle.std.proofs.Common.{◌≡◌, ℕ, List, [], ◌++◌, Err, refl, inl, inr}
 use Rattle.command_line.specs.declared.files.FileError.{FileError}
 use Rattle.command_line.specs.declared.files.FileError.TheVariants.{File, Memory}
 use Rattle.command_line.specs.Errors.{fault_of_file}
 use Rattle.command_line.specs.Files.{Content, ReadsFile, OpensFile, ReadsPiece}
-use Rattle.dbusfan_tool.specs.FirstBytes.{FailsToRead, Continues}
+use Rattle.dbusfan_tool.specs.FirstBytes.{FailsToRead}
 
 module _ (gave : Content → Type 0) where
   pub not_opened : (error : FileError) → OpensFile gave (Err error) → ReadsFile gave (Err error)
@@ -18,7 +18,3 @@ module _ (gave : Content → Type 0) where
   pub fails_to_read : (error : FileError) → ReadsFile gave (Err error) → FailsToRead gave (fault_of_file error)
   fails_to_read File gives = inl (gives.0, refl, gives.1)
   fails_to_read Memory gives = inr refl
-
-pub continues : (is_open : Bool) (first bytes more : List ℕ) → is_open ≡ true → bytes ≡ first ++ more → Continues is_open first bytes
-continues true first bytes more e is = (more, is)
-continues false first bytes more e is = absurd (cc)

@@ -108,18 +108,6 @@ module _ (words : Wording) (each : Bool) (written : List ℕ) (found : List Find
         passed_over_are = ap (λ (t : Tally). t.passed_over) counts ∙ ap (λ (t : Tally). t.passed_over) puts ∙ tally.passed_over_are;
       }
 
-  pub one_passed : (old : Tally) (count : ℕ) → IsTally words each old written found passed → count ≡ old.passed_over + 1 → IsTally words each (record old { passed_over = count }) written found (passed + 1)
-  one_passed old count tally is = record {
-    words_are = tally.words_are;
-    each_is = tally.each_is;
-    lines_are = tally.lines_are;
-    notes_are = tally.notes_are;
-    packets_are = tally.packets_are;
-    judged_are = tally.judged_are;
-    accepted_are = tally.accepted_are;
-    passed_over_are = is ∙ ap (λ (n : ℕ). n + 1) tally.passed_over_are;
-  }
-
   -- the lines were written
   pub all_written : (old new : Tally) → IsTally words each old written found passed → new ≡ record old { lines = new.lines } → string_bytes new.lines ≡ [] → IsTally words each new (written ++ string_bytes old.lines) found passed
   all_written old new tally is empty = record {

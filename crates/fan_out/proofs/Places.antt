@@ -133,10 +133,6 @@ pub number_pushed : (numbers more ns all : List ℕ) (ms : List Bool) (k n : ℕ
 number_pushed numbers more ns all ms k n e f push so_far =
     rw (add-one, push, append_assoc) (ap (λ (xs : List ℕ). numbers ++ xs) (sym (next_number ns ms k n true e f)) ∙ so_far)
 
-pub number_passed : (numbers more ns all : List ℕ) (ms : List Bool) (k n : ℕ) → slice_get ns k ≡ Some n → slice_get ms k ≡ Some false → more ≡ numbers → numbers ++ marked_numbers (drop k ns) (drop k ms) ≡ all → more ++ marked_numbers (drop (k + 1) ns) (drop (k + 1) ms) ≡ all
-number_passed numbers more ns all ms k n e f same so_far =
-    rw (add-one, same) (ap (λ (xs : List ℕ). numbers ++ xs) (sym (next_number ns ms k n false e f)) ∙ so_far)
-
 module _ {M : Type 0} where
   number_get : (cs : List (Connection M)) (k : ℕ) (c : Connection M) → slice_get cs k ≡ Some c → slice_get (numbers_of cs) k ≡ Some c.number
   number_get [] k c e = cc

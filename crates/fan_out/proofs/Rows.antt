@@ -3,10 +3,10 @@ use Rattle.std.proofs.Common.{◌≡◌, ℕ, zero, suc, ◌+◌, ◌-◌, ◌*�
 use Rattle.std.specs.Prelude.{MatchBool, Contains, slice_get, set, replicate}
 use Rattle.std.specs.List.Sorted.{IsStrictlyIncreasing}
 use Rattle.std.proofs.lemmas.List.{length-map, drop_all}
-use Rattle.std.proofs.lemmas.Option.{slice_get-get_or, slice_get_within}
+use Rattle.std.proofs.lemmas.Option.{slice_get-get_or}
 use Rattle.program_table.specs.declared.connection.Connection.{Connection}
 use Rattle.program_table.specs.Connections.{numbers_of}
-use Rattle.fan_out.specs.Marks.{AreInRows, AreWithin, AreNoted, IsMarked, IsUnmarked, marked_numbers}
+use Rattle.fan_out.specs.Marks.{AreInRows, AreWithin, IsMarked, IsUnmarked, marked_numbers}
 use Rattle.fan_out.proofs.Places.{contains_here, contains_later, rising_tail, rising_head}
 
 skip_mark : (ns : List ℕ) (ms : List Bool) (k : ℕ) → slice_get ms k ≡ Some false → marked_numbers (drop k ns) (drop k ms) ≡ marked_numbers (drop (suc k) ns) (drop (suc k) ms)
@@ -130,11 +130,3 @@ same_place (x ∷ ns) (suc i) (suc j) n rising e f = ap suc (same_place ns i j n
 pub marked_at : (numbers : List ℕ) (marks : List Bool) (place n : ℕ) (b : Bool) → IsStrictlyIncreasing numbers → slice_get numbers place ≡ Some n → slice_get marks place ≡ Some b → MatchBool b (IsMarked numbers marks n) (IsUnmarked numbers marks n)
 marked_at numbers marks place n true rising stands e = (place, stands, e)
 marked_at numbers marks place n false rising stands e = λ k there. subst (λ (j : ℕ). slice_get marks j ≡ Some false) (same_place numbers place k n rising stands there) e
-
--- a number whose remainder isn't noted isn't marked
-pub unmarked_from : (numbers : List ℕ) (marks remainders : List Bool) (n : ℕ) → length numbers ≤ length marks → AreNoted numbers marks remainders → slice_get remainders (n % 256) ≡ Some false → IsUnmarked numbers marks n
-unmarked_from numbers marks remainders n few noted unnoted k stands = go (get_or marks k false) (slice_get-get_or marks k false (omega (arith, few, slice_get_within numbers k n stands)))
-  where
-    go : (b : Bool) → slice_get marks k ≡ Some b → slice_get marks k ≡ Some false
-    go false e = e
-    go true e = absurd (marked_never true (sym (noted k n stands e) ∙ unnoted) refl)

@@ -36,9 +36,5 @@ says_anywhere : (edition : Edition) (bytes words : List ℕ) (program : List Ins
 says_anywhere edition bytes words program verdict answer run same =
     record { verdict = verdict; ends = record { ends = λ m valid. run (image_bytes edition m words) }; same = same }
 
-pub rule_anywhere : (compiled : CompiledRule) (bytes words : List ℕ) (program : List Ins) (verdict : ℕ) (answer : Bool) → IsRest compiled.rule compiled.slot program → EndsAnywhere program verdict → (IsTrue answer ↔ (0 < verdict)) → IsAnswer bytes words (Rule compiled) answer
-rule_anywhere compiled bytes words program verdict answer rest run same =
-    record { program = program; rest = rest; says = says_anywhere Two bytes words program verdict answer run same }
-
 pub attached_anywhere : (attached : AttachedProgram) (bytes words : List ℕ) (verdict : ℕ) (answer : Bool) → EndsAnywhere attached.program verdict → (IsTrue answer ↔ (0 < verdict)) → IsAnswer bytes words (Attached attached) answer
 attached_anywhere attached bytes words verdict answer run same = says_anywhere attached.edition bytes words attached.program verdict answer run same

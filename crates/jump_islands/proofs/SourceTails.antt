@@ -21,10 +21,9 @@ use Rattle.jump_islands.specs.Lowering.{IsTarget, IsTargetRefusal}
 use Rattle.jump_islands.specs.PlainLength.{size_of, sizes_of, plain_length}
 use Rattle.jump_islands.specs.Source.{jump_over, branch_over, AreWellMade}
 use Rattle.jump_islands.specs.SourceItems.{as_ins, source_of, is_plain_source, are_plain_sources}
-use Rattle.jump_islands.specs.Tails.{TailTree, len, height, reach, no_tail, jump_to, with_ins, with_place, with_islands, with_branch, with_source, IsPlace, ArePlaces}
+use Rattle.jump_islands.specs.Tails.{TailTree, len, height, reach, jump_to, with_ins, with_place, with_islands, with_branch, with_source, IsPlace, ArePlaces}
 use Rattle.jump_islands.proofs.ListPlaces.{slice_get-seam, all_at}
 use Rattle.jump_islands.proofs.TailFacts.{IsTail, reached_below}
-use Rattle.jump_islands.proofs.TailSteps.{tail_start}
 use Rattle.jump_islands.proofs.TailLines.{plain_tail, jump_tail, branch_tail}
 use Rattle.jump_islands.proofs.SourceRuns.{Lowers, tied_start, ends_on, only_on}
 use Rattle.jump_islands.proofs.SourcePaths.{well_formed}
@@ -74,9 +73,6 @@ ins_tail source front done (Jump over) t tail e plain =
 pub record Done (instructions : List SourceIns) (n : ℕ) (t : TailTree) : Type 0 where
   pub tail : IsTail (AreWellMade (source_of instructions)) (source_of (take n instructions)) t
   pub few : len t ≤ 4096
-
-pub done_start : (instructions : List SourceIns) → Done instructions 0 no_tail
-done_start instructions = record { tail = tail_start (AreWellMade (source_of instructions)); few = omega arith }
 
 pub done_tail : (instructions : List SourceIns) (n : ℕ) (t : TailTree) (d : SourceIns) → Done instructions n t → n < length instructions → are_plain_sources instructions ≡ true → IsTail (AreWellMade (source_of instructions)) (source_of (take (n + 1) instructions)) (with_source (get_or instructions n d) t)
 done_tail instructions n t d h inside plain =

@@ -1,34 +1,13 @@
 -- What each step of `lower` keeps of a tail.
-use Rattle.std.proofs.Common.{◌≡◌, ℕ, zero, suc, ◌+◌, ◌-◌, ◌<◌, ◌≤◌, List, [], ◌∷◌, ◌++◌, length, Some, inl, inr, refl, sym, ◌∙◌, arith, length-append}
+use Rattle.std.proofs.Common.{◌≡◌, ℕ, ◌+◌, ◌-◌, ◌<◌, ◌≤◌, List, [], ◌∷◌, ◌++◌, length, Some, inl, inr, refl, sym, ◌∙◌, arith, length-append}
 use Rattle.std.proofs.lemmas.Bool.{cases_eq, cases_lt}
 use Rattle.std.proofs.lemmas.List.{get_or_append_left, get_or_push, get_or-set_same, get_or-set_other}
 use Rattle.std.proofs.Math.ListN.{length-set}
 use Rattle.std.specs.List.{slice_get}
 use Rattle.bpf_code.specs.declared.instruction.Ins.{Ins}
-use Rattle.jump_islands.specs.Tails.{TailTree, len, height, reach, no_tail, jump_to, with_ins, with_place, with_island}
+use Rattle.jump_islands.specs.Tails.{TailTree, len, height, reach, jump_to, with_ins, with_place, with_island}
 use Rattle.jump_islands.proofs.ListPlaces.{slice_get-seam}
-use Rattle.jump_islands.proofs.TailFacts.{Reached, IsPut, From, Holds, IsTail, island_extends, put_extends, reached_on, lowered_on, from_on}
-
--- ---- no instruction
-
-place_none : (i : ℕ) → i ≤ 0 → height no_tail i ≤ 0
-place_none zero h = omega arith
-place_none (suc i) h = absurd (omega arith)
-
-pub tail_start : (W : Type 0) → IsTail W [] no_tail
-tail_start W = record {
-  holds = record {
-    long = refl;
-    reached = refl;
-    last = refl;
-    below = place_none;
-    lowered = tt;
-    each = λ j inside. absurd (omega arith);
-    reaches = λ i inside. inl refl;
-  };
-  top = refl;
-  short = λ d. omega arith;
-}
+use Rattle.jump_islands.proofs.TailFacts.{Reached, IsPut, From, Holds, island_extends, put_extends, reached_on, lowered_on, from_on}
 
 -- ---- an island
 

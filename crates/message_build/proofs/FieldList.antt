@@ -20,12 +20,6 @@ pub field_at : (place i : ℕ) (x : Option HeaderField) (xs : List (Option Heade
     → fields_bytes Little place (fields_of (drop i xs)) ≡ bytes_at place x ++ fields_bytes Little (place + length (bytes_at place x)) (fields_of (drop (i + 1) xs))
 field_at place i x xs lt is = ap (λ (l : List (Option HeaderField)). fields_bytes Little place (fields_of l)) (drop_is xs i x lt is) ∙ first_field place x (drop (i + 1) xs)
 
--- how long they are
-pub len_at : (place i : ℕ) (x : Option HeaderField) (xs : List (Option HeaderField)) → i < length xs → x ≡ get_or xs i x
-    → length (fields_bytes Little place (fields_of (drop i xs))) ≡ length (bytes_at place x) + length (fields_bytes Little (place + length (bytes_at place x)) (fields_of (drop (i + 1) xs)))
-len_at place i x xs lt is =
-    ap (λ (l : List ℕ). length l) (field_at place i x xs lt is) ∙ length-append (bytes_at place x) (fields_bytes Little (place + length (bytes_at place x)) (fields_of (drop (i + 1) xs)))
-
 -- what is appended makes what is left fewer
 pub left_at : (whole old new : List ℕ) (i : ℕ) (x : Option HeaderField) (xs : List (Option HeaderField)) → i < length xs → x ≡ get_or xs i x
     → whole ≡ old ++ fields_bytes Little (length old) (fields_of (drop i xs)) → new ≡ old ++ bytes_at (length old) x

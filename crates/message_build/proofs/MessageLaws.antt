@@ -107,9 +107,6 @@ Refuses h s body body_state = AsksNone (request_of h s body body_state)
 the_valid : (h : Header) (s body : List ℕ) (body_state : BodyState) (m : Message) → Asks (request_of h s body body_state) m → IsValidButForSize m → IsValidButForSize (the h s m.types m.arguments)
 the_valid h s body body_state m asks valid = subst IsValidButForSize (is_the h s body body_state m asks) valid
 
-pub spoiled_refused : (h : Header) (s body : List ℕ) (body_state : BodyState) → is_spoiled body_state ≡ true → Refuses h s body body_state
-spoiled_refused h s body body_state e m asks valid = let whole : is_spoiled body_state ≡ false = asks.whole in absurd cc
-
 not_zero : (n : ℕ) → 0 < n → not (eqb n 0) ≡ true
 not_zero n lt = let e : eqb n 0 ≡ false = grind (arith, nat_tests) in rw e refl
 

@@ -37,9 +37,6 @@ after_start reader shorter turns a le =
     let more : turns ≡ length a.rest + (turns - length a.rest) = omega arith in
     ap (λ (k : ℕ). each_at reader k a) more ∙ enough_turns reader shorter (length a.rest) (turns - length a.rest) a (omega arith)
 
-pub after_none : {X : Type 0} (reader : At → Result (X × At) MsgError) (a : At) → length a.rest ≡ 0 → each_after reader a ≡ Ok []
-after_none reader a e = nothing_left (length a.rest) reader a e
-
 one_turn : {X : Type 0} (reader : At → Result (X × At) MsgError) (turns : ℕ) (a : At) → 0 < length a.rest → each_at reader (suc turns) a ≡ (reader a >>= λ first. each_at reader turns first.1 >>= λ more. Ok (first.0 ∷ more))
 one_turn reader turns a lt =
     let some : eqb (length a.rest) 0 ≡ false = ne_eqb _ _ (λ e. omega arith) in
@@ -55,6 +52,3 @@ pub after_one : {X : Type 0} (reader : At → Result (X × At) MsgError) → Ite
 after_one reader shorter a found lt e =
     let less = shorter a found e in
     after_suc reader a lt ∙ rw (e, after_start reader shorter (length a.rest - 1) found.1 (omega (arith, less))) refl
-
-pub after_fault : {X : Type 0} (reader : At → Result (X × At) MsgError) (a : At) (fault : MsgError) → 0 < length a.rest → reader a ≡ Err fault → each_after reader a ≡ Err fault
-after_fault reader a fault lt e = after_suc reader a lt ∙ rw e refl

@@ -1,7 +1,6 @@
 -- The bytes of a value, and whether it fits, depend on its place only by the remainder by 8.
 use Rattle.std.proofs.Common.{◌≡◌, ℕ, suc, ◌+◌, ◌*◌, ◌-◌, ◌%◌, ◌≤◌, Bool, true, false, cond, eqb, List, ◌++◌, length, refl, sym, ap, subst, ◌∙◌, arith}
 use Rattle.std.specs.Prelude.{◌||◌}
-use Rattle.std.proofs.Math.Nat.{add-mul-mod_self_left}
 use Rattle.signature.specs.DataType.{DataType, DataTypes, basic, variant, array, dict, struct, no_types, one_more}
 use Rattle.signature.specs.Alignment.{alignment_of}
 use Rattle.message_value.specs.declared.order.Order.{Order}
@@ -194,15 +193,3 @@ mutual
       let moved = value_bytes order q t v in
       (bare_fits_moved order levels (align_up (alignment_of t) p) (align_up (alignment_of t) q) (aligned_alike p q s t) t v has.0, members_fit_moved order levels (p + length first) (q + length moved) (after_alike p q first moved s (value_moved order p q s t v)) ts vs has.1)
   members_fit_moved order levels p q s _ _ has = has
-
--- ---- the same at a multiple of eight more
-
-pub alike_by_eights : (place k : ℕ) → Alike (place + 8 * k) place
-alike_by_eights place k = record { is = add-mul-mod_self_left place 8 k }
-
--- a body begins at a multiple of eight, as one at 0
-pub members_at_eights : (order : Order) (k : ℕ) (types : DataTypes) (vs : Values) → members_bytes order (8 * k) types vs ≡ members_bytes order 0 types vs
-members_at_eights order k types vs = members_moved order (8 * k) 0 (eights k) types vs
-  where
-    eights : (k : ℕ) → Alike (8 * k) 0
-    eights k = record { is = omega arith }

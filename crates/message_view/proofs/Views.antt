@@ -30,9 +30,8 @@ use Rattle.message_view.specs.declared.extent.TextField.TheVariants as names
 use Rattle.message_view.specs.HeaderAnswers.{body_of, IsKept, HasHeader, ReadsFramed, ReadsView, kept_by}
 use Rattle.message_view.specs.FieldAnswers.{slots_shown, lying}
 use Rattle.message_view.specs.FixedAnswers.{IsFixed}
-use Rattle.message_view.proofs.FixedPart.{framing_again}
 use Rattle.message_view.proofs.Framed.{cursor_is}
-use Rattle.message_view.proofs.OneMessage.{valid_lies, valid_fixed, valid_reads, reads_valid, message_whole, members_read, fault_invalid}
+use Rattle.message_view.proofs.OneMessage.{valid_lies, valid_reads, reads_valid, message_whole, members_read, fault_invalid}
 
 -- ---- the length
 
@@ -87,13 +86,6 @@ kept_first fixed sections bytes read is same found =
     }
 
 -- ---- bytes that are known to be a message
-
-known_framing : (bytes : List ℕ) (m : Message) → Valid bytes m → framing bytes ≡ Ok (Some (whole_len bytes))
-known_framing bytes m valid = framing_again bytes (valid_fixed bytes m valid)
-
--- their length is the one that is said
-pub known_whole : (bytes : List ℕ) (m : Message) → Valid bytes m → length bytes ≡ whole_len bytes
-known_whole bytes m valid = (message_whole bytes m (valid_reads bytes m valid)).whole
 
 -- its fields are read, and nothing between them and the body has a fault
 pub record KnownHeader (fixed : Fixed) (bytes : List ℕ) : Type 0 where

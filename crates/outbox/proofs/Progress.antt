@@ -1,10 +1,10 @@
 -- Each step on a sender's word keeps its rule.
-use Rattle.std.proofs.Common.{ℕ, zero, suc, ◌≡◌, ◌≢◌, ◌≤◌, true, [], ◌∷◌, ◌++◌, set, get_or, refl, sym, ap, ◌∙◌, subst, arith, ⊎_elim}
+use Rattle.std.proofs.Common.{ℕ, zero, suc, ◌≡◌, ◌≢◌, ◌≤◌, true, [], ◌∷◌, ◌++◌, set, get_or, refl, sym, ap, ◌∙◌, arith, ⊎_elim}
 use Rattle.std.proofs.lemmas.Bool.{false≢true}
 use mathlib.Core.Option.{some, some-ne-none, some-injective}
 use lib.ListN.{get_elem?}
 use Rattle.crossbeam_queue.proofs.Lists.{at_set, at_snoc}
-use Rattle.atomic_table.specs.Table.{State, Me, Allows, Enters, opening, keeps}
+use Rattle.atomic_table.specs.Table.{State, Me, Allows, Enters, keeps}
 use Rattle.outbox.specs.declared.rule.ReleaseView.{ReleaseView}
 use Rattle.outbox.specs.Released.{Counts, sender_at, found_at, Found, Raised}
 use Rattle.outbox.proofs.Words.{set_length, set_now}
@@ -13,14 +13,6 @@ use Rattle.outbox.proofs.Words.{set_length, set_now}
 alone : (p : ℕ) (v : ReleaseView) → get_elem? (sender_at 0 ∷ []) p ≡ some v → (p ≡ 0) × (v ≡ sender_at 0)
 alone zero v e = (refl, sym (some-injective (sender_at 0) v e))
 alone (suc p) v e = absurd (some-ne-none v (sym e))
-
-pub opens_counts : Counts (opening (0 ∷ []) [] (sender_at 0))
-opens_counts = record {
-  there = omega arith;
-  known = λ p v e. let P : ReleaseView → Type 0 = λ u. u.released ≤ 0 in subst P (sym (alone p v e).1) (omega arith);
-  exact = λ p v e is. ap (λ (u : ReleaseView). u.released) (alone p v e).1;
-  one = λ p q v w e f a b. (alone p v e).0 ∙ sym (alone q w f).0;
-}
 
 pub finds : (slots : ℕ) → Enters Counts slots 0 (λ n w. Found n (w, []))
 finds slots t h homes fits =

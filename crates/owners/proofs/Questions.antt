@@ -3,11 +3,10 @@ use Rattle.std.specs.Prelude.{◌≡◌, ◌<◌, ◌≤◌, ℕ, zero, suc, Boo
 use Rattle.std.specs.Option.{option_eq}
 use Rattle.std.proofs.Common.{refl, sym, ap, ◌∙◌, arith}
 use Rattle.std.proofs.lemmas.Bool.{false≢true, eqb-true}
-use Rattle.std.proofs.lemmas.Option.{slice_get_past}
 use Rattle.owners.specs.declared.holding.Holding.{Holding}
 use Rattle.owners.specs.declared.claim.SlotClaim.{SlotClaim}
 use Rattle.owners.specs.Queues.{queue_of, is_on, Claim, is_of}
-use Rattle.owners.specs.Registry.{lesser, least, least_of, next_name, is_after, is_owned_slot, is_owned_holding, max_names, slot_of, rules_at, rules_in, rules_of, slot_next, first_free, or_else}
+use Rattle.owners.specs.Registry.{least, least_of, next_name, is_after, is_owned_slot, is_owned_holding, max_names, slot_of, rules_in, rules_of, slot_next, first_free, or_else}
 use Rattle.owners.specs.Kept.{slot_queue, named_claim, registry, is_name, is_on_slot, is_by, slot_owner, claim_name, IsKept}
 use Rattle.owners.proofs.Lists.{Each, Each-weaker, Each-always, filter-map, map-map}
 use Rattle.owners.proofs.Placed.{Tells, on_agrees, tells_own, HeldAt, each_held, no_slot_number}
@@ -52,15 +51,6 @@ queue_shown slots slot name t claims e =
 
 -- ---- the rules of a name
 
-rules_by : (slots : List (Option Holding)) → length slots ≡ max_names → (o : Option ℕ) → rules_at (slice_get slots (unwrap_or o no_slot_number)) ≡ rules_in o slots
-rules_by slots size (Some slot) = refl
-rules_by slots size None =
-    let past : length slots ≤ no_slot_number = omega (arith, size) in
-    ap rules_at (slice_get_past slots no_slot_number past)
-
-pub rules_known : (slots : List (Option Holding)) → length slots ≡ max_names → (name : List ℕ) → rules_at (slice_get slots (unwrap_or (slot_of name slots) no_slot_number)) ≡ rules_of name slots
-rules_known slots size name = rules_by slots size (slot_of name slots)
-
 known_by : (slots : List (Option Holding)) (name : List ℕ) (slot : ℕ) (o : Option ℕ) → slot ≡ unwrap_or o no_slot_number → 0 < rules_in o slots → or_else o (first_free slots) ≡ Some slot
 known_by slots name slot (Some k) e h = ap Some (sym e)
 known_by slots name slot None e h = absurd (omega arith)
@@ -80,14 +70,6 @@ pub next_shown : (claims : List SlotClaim) (slots : List (Option Holding)) (othe
 next_shown claims slots other =
     ap least (sym (ap (filter (is_after other)) (map-map (λ (c : Claim). c.name) (named_claim slots) claims)
     ∙ filter-map (is_after other) (λ (c : SlotClaim). is_after other (claim_name slots c)) (claim_name slots) claims (Each-always (λ (c : SlotClaim). is_after other (claim_name slots c) ≡ is_after other (claim_name slots c)) (λ c. refl) claims)))
-
-least_by : (b : Bool) (f : SlotClaim → List ℕ) (x : SlotClaim) (xs : List SlotClaim) → least (map f (cond b (x ∷ xs) xs)) ≡ (if b then lesser (f x) (least (map f xs)) else least (map f xs))
-least_by true f x xs = refl
-least_by false f x xs = refl
-
--- one more claim, from the back
-pub least_more : (p : SlotClaim → Bool) (f : SlotClaim → List ℕ) (x : SlotClaim) (xs rest : List SlotClaim) → rest ≡ x ∷ xs → least (map f (filter p rest)) ≡ (if p x then lesser (f x) (least (map f (filter p xs))) else least (map f (filter p xs)))
-least_more p f x xs rest e = ap (λ (l : List SlotClaim). least (map f (filter p l))) e ∙ least_by (p x) f x (filter p xs)
 
 -- ---- no names
 

@@ -128,9 +128,6 @@ request_answered claims slots p claim name n over o =
     ∙ ap (λ (r : NameReply). if over then Err QueueFull else Ok (let x : Named = record { answer = r; change = change_between name names (after_requesting name connection flags names) } in x)) reply_is
     ∙ ap (λ c. if over then Err QueueFull else Ok (let x : Named = record { answer = reply_of (find (is_on_slot claim.slot) claims) connection flags; change = c } in x)) change_is
 
-pub request_refused : (claims : List SlotClaim) (slots : List (Option Holding)) (name : List ℕ) (connection flags : ℕ) → slot_next name slots ≡ None → request_answer name connection flags (registry claims slots) ≡ Err NamesFull
-request_refused claims slots name connection flags n = rw n refl
-
 -- the names after a request that is accepted
 pub request_after : (name : List ℕ) (connection flags : ℕ) (names : Registry) (named : Named) → request_answer name connection flags names ≡ Ok named → after_request name connection flags names ≡ record { claims = after_requesting name connection flags names.claims; slots = with_rules name (rules_of name names.slots) names.slots }
 request_after name connection flags names named e = by (request_answer name connection flags names) e
@@ -153,13 +150,6 @@ request_planned claims slots kept name connection flags plan p rules r claims_af
       ap (λ l. registry l slots_after) step ∙ ap (registry (step_done (step_for claim claims) claim claims)) held ∙ done.1
           ∙ sym (request_after name connection flags (registry claims slots) plan.named p.answer),
     )
-
-pub refused_after : (name : List ℕ) (connection flags : ℕ) (names : Registry) (error : ClaimError) → request_answer name connection flags names ≡ Err error → after_request name connection flags names ≡ names
-refused_after name connection flags names error e = by (request_answer name connection flags names) e
-  where
-    by : (r : Result Named ClaimError) → r ≡ Err error → (if is_ok r then (let x : Registry = record { claims = after_requesting name connection flags names.claims; slots = with_rules name (rules_of name names.slots) names.slots } in x) else names) ≡ names
-    by (Ok n) f = absurd cc
-    by (Err n) f = refl
 
 -- ---- a release
 

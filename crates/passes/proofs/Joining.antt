@@ -48,12 +48,6 @@ module _ {M : Type 0} where
       (λ (h : (refusal : Refusal) × (reply_to s (Connect m) ≡ Refused refusal)). let f : Connected n ≡ Refused h.0 = sym e ∙ h.1 in cc)
       (connect_reply s m)
 
-  pub no_other : (s : State M) (m : M) → ((n : ℕ) → reply_to s (Connect m) ≡ Connected n → ⊥) → ((refusal : Refusal) → reply_to s (Connect m) ≡ Refused refusal → ⊥) → ⊥
-  no_other s m a b =
-      ⊎_elim (λ (h : reply_to s (Connect m) ≡ Connected (s.last_connection + 1)). a (s.last_connection + 1) h)
-      (λ (h : (refusal : Refusal) × (reply_to s (Connect m) ≡ Refused refusal)). b h.0 h.1)
-      (connect_reply s m)
-
   -- a pass without a connection, after a history that is published
   pub record IsFresh (v : PassState M) (before : Publication M) (connection : ℕ) : Type 0 where
     pub legal : IsHistory before.history

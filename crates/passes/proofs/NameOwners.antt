@@ -1,34 +1,15 @@
 -- Owners of unique names.
-use Rattle.std.proofs.Common.{◌≡◌, ◌⊎◌, inl, inr, ℕ, zero, suc, arith, ◌+◌, ◌<◌, ◌==◌, ◌||◌, true, List, [], ◌∷◌, ◌++◌, length, take, get_or, Option, Some, None, sym, ap, ◌∙◌, eqb-true, eq-eqb}
+use Rattle.std.proofs.Common.{◌≡◌, ◌⊎◌, ℕ, zero, suc, arith, ◌+◌, ◌<◌, ◌==◌, ◌||◌, true, List, [], ◌∷◌, ◌++◌, length, get_or, Option, Some, None, sym, ap, ◌∙◌, eq-eqb}
 use Rattle.std.specs.Prelude.{MatchOption}
-use Rattle.std.proofs.lemmas.List.{take_more, map-append}
-use Rattle.std.proofs.lemmas.Bool.{or_cases, or_right}
+use Rattle.std.proofs.lemmas.Bool.{or_right}
 use Rattle.program_table.specs.declared.connection.Connection.{Connection}
 use Rattle.program_table.specs.Connections.{numbers_of, is_connected}
 use Rattle.routing.specs.Stops.{is_in}
-use Rattle.routing.proofs.Puts.{in_snoc}
 use Rattle.unique_name.specs.UniqueNames.{unique_name}
 use Rattle.passes.specs.NameSearch.{NoneIsNamed}
 use Rattle.passes.proofs.Finding.{is_in-connected}
 
 module _ {M : Type 0} where
-  -- one more connection hasn't this unique name
-  pub none_next : (name : List ℕ) (connections : List (Connection M)) (k : ℕ) (c : Connection M) → k < length connections → c ≡ get_or connections k c → (name ≡ unique_name c.number → ⊥) → NoneIsNamed name (numbers_of (take k connections)) → NoneIsNamed name (numbers_of (take (k + 1) connections))
-  none_next name connections k c lt is other h n e named =
-      pick (or_cases (is_in n front) (c.number == n) (sym (in_snoc n c.number front) ∙ ap (is_in n) (sym whole) ∙ e))
-    where
-      front : List ℕ
-      front = numbers_of (take k connections)
-
-      whole : numbers_of (take (k + 1) connections) ≡ front ++ c.number ∷ []
-      whole =
-          ap numbers_of (take_more connections k c lt) ∙ map-append (λ (x : Connection M). x.number) (take k connections) (get_or connections k c ∷ [])
-          ∙ ap (λ (x : Connection M). front ++ x.number ∷ []) (sym is)
-
-      pick : (is_in n front ≡ true) ⊎ ((c.number == n) ≡ true) → ⊥
-      pick (inl f) = h n f named
-      pick (inr f) = other (named ∙ ap unique_name (sym (eqb-true c.number n f)))
-
   -- the number of a connection among these is among theirs
   pub has_number : (connections : List (Connection M)) (k : ℕ) (c : Connection M) → k < length connections → c ≡ get_or connections k c → is_in c.number (numbers_of connections) ≡ true
   has_number [] k c lt is = absurd (omega (arith, lt))

@@ -7,14 +7,13 @@ use Rattle.std.proofs.lemmas.Bool.{and_from, and_parts}
 use Rattle.owners.specs.Queues as queues
 use Rattle.owners.specs.Queues.{Claim, is_claim, has_flag, do_not_queue, may_replace, has_claim, without, with_flags, with_last, after_replacement, requested_by, first_claim}
 use Rattle.entry_table.specs.declared.entry.Entry.{Entry}
-use Rattle.entry_table.specs.declared.entry.Filter.{Filter}
 use Rattle.entry_table.specs.Entries.{is_of, is_entry}
 use Rattle.program_table.specs.declared.command.Reply.{Reply}
 use Rattle.program_table.specs.declared.refusal.Refusal.{Refusal}
 use Rattle.program_table.specs.declared.refusal.Refusal.TheVariants as refusals
 use Rattle.program_table.specs.declared.connection.Connection.{Connection}
 use Rattle.program_table.specs.Connections.{has_number, is_connected, with_command, without_connection}
-use Rattle.program_table.specs.Registrations.{Registrations, no_registrations, with_entry, with_sender, without_entry, with_request, without_claim, without_all_of}
+use Rattle.program_table.specs.Registrations.{Registrations, without_entry, with_request, without_claim, without_all_of}
 use Rattle.program_table.specs.State.{State}
 use Rattle.program_table.specs.Refusals.{◌>>=◌}
 use Rattle.program_table.specs.Does.{refuse_unconnected}
@@ -121,21 +120,11 @@ module _ {M : Type 0} where
     claims = all_imply (claim_of cs) (claim_of ds) r.claims (λ c. h c.connection) is.claims;
   }
 
-  pub opening_theirs : (cs : List (Connection M)) (r : Registrations) → r ≡ no_registrations → AreOfConnections cs r
-  opening_theirs cs r e = rw e (record { entries = refl; claims = refl })
-
   pub counted_theirs : (number : ℕ) (cs : List (Connection M)) (r : Registrations) → AreOfConnections cs r → AreOfConnections (with_command number cs) r
   counted_theirs number cs r is = moved cs (with_command number cs) r (λ n. connected-with_command n number cs) is
 
   pub connected_theirs : (cs ds : List (Connection M)) (r : Registrations) → AreOfConnections cs r → AreOfConnections (cs ++ ds) r
   connected_theirs cs ds r is = moved cs (cs ++ ds) r (λ n. connected-append n cs ds) is
-
-  pub added_theirs : (c : ℕ) (filter : Filter) (cs : List (Connection M)) (r : Registrations) → is_connected c cs ≡ true → AreOfConnections cs r → AreOfConnections cs (with_entry c filter r)
-  added_theirs c filter cs r there is = record { entries = all-push (entry_of cs) r.entries _ is.entries there; claims = is.claims }
-
-  pub named_theirs : (name : Option (List ℕ)) (cs : List (Connection M)) (r : Registrations) → AreOfConnections cs r → AreOfConnections cs (with_sender name r)
-  named_theirs None cs r is = is
-  named_theirs (Some name) cs r is = record { entries = is.entries; claims = is.claims }
 
   pub removed_theirs : (c : ℕ) (id : Option ℕ) (cs : List (Connection M)) (r : Registrations) → AreOfConnections cs r → AreOfConnections cs (without_entry c id r)
   removed_theirs c None cs r is = is

@@ -1,5 +1,5 @@
 -- What follows where the place of a connection is known.
-use Rattle.std.proofs.Common.{◌≡◌, ◌≢◌, ℕ, zero, suc, ◌+◌, ◌<◌, ◌≤◌, ◌==◌, Bool, true, false, not, cond, List, [], ◌∷◌, ◌++◌, length, get_or, set, map, filter, Option, Some, None, refl, sym, ap, subst, ◌∙◌, arith, length-append, length-set}
+use Rattle.std.proofs.Common.{◌≡◌, ◌≢◌, ℕ, zero, suc, ◌+◌, ◌<◌, ◌≤◌, ◌==◌, Bool, true, false, not, cond, List, [], ◌∷◌, ◌++◌, length, get_or, set, map, filter, Option, Some, None, refl, sym, ap, subst, ◌∙◌, arith, length-set}
 use Rattle.std.specs.Prelude.{find, remove, is_some, slice_get, MatchOption, All}
 use Rattle.std.specs.List.Sorted.{IsStrictlyIncreasing}
 use Rattle.std.proofs.lemmas.Bool.{eq-eqb, ne_eqb}
@@ -50,9 +50,6 @@ module _ {M : Type 0} where
 
   pub read_here : (n k : ℕ) (cs : List (Connection M)) (p : IsPlaceOf n cs k) (d : Connection M) → get_or cs k d ≡ p.here
   read_here n k cs p d = rw (p.parts, ← p.place_is) (get_or-append_seam p.front p.here p.back d)
-
-  pub within_here : (n k : ℕ) (cs : List (Connection M)) (p : IsPlaceOf n cs k) → k < length cs
-  within_here n k cs p = rw p.parts (omega (arith, length-append p.front (p.here ∷ p.back), p.place_is))
 
   counted_from : (n : ℕ) (front back : List (Connection M)) (c : Connection M) → HaveOtherNumbers n front → HaveOtherNumbers n back → c.number ≡ n → with_command n (front ++ c ∷ back) ≡ front ++ one_more_if true c ∷ back
   counted_from n [] back c f b e = rw (eq-eqb c.number n e, with_command-differ n back b) refl

@@ -31,9 +31,6 @@ abbrev pub registrations_of : Registry → Entries → Registrations
 registrations_of names all =
     record { claims = names.claims; slots = slot_names names.slots; entries = all.entries; last_entry = all.last }
 
-abbrev pub registry_of : Registrations → Registry
-registry_of r = record { claims = r.claims; slots = holdings r.entries r.slots }
-
 pub record AreTied (names : Registry) (all : Entries) : Type 0 where
   pub registry : IsRegistry names
   pub entries : AreEntries all

@@ -1,14 +1,13 @@
 -- What taken seats and puts leave of a sender's stops.
-use Rattle.std.proofs.Common.{eqb-true, ◌∷◌, ℕ, ◌≡◌, ◌+◌, ◌≤◌, ◌==◌, ◌&&◌, ◌⊎◌, not, Bool, true, false, true≢false, cond, List, [], filter, refl, sym, ap, ◌∙◌, subst, arith, inl, inr, eq-eqb, append-nil, ◌++◌, Option, Some, None, IfSome, option_map}
+use Rattle.std.proofs.Common.{eqb-true, ◌∷◌, ℕ, ◌≡◌, ◌+◌, ◌≤◌, ◌==◌, ◌&&◌, ◌⊎◌, not, Bool, true, false, true≢false, cond, List, [], filter, refl, sym, ap, ◌∙◌, subst, arith, append-nil, ◌++◌, Option, Some, None, IfSome, option_map}
 use Rattle.outbox.specs.Items.{Item}
 use Rattle.outbox.specs.declared.rule.SeatView.{SeatView}
 use Rattle.outbox.specs.Counts.{AreOf, count_of, counts_of, last_of}
-use Rattle.outbox.specs.Seated.{OutboxId}
 use Rattle.outbox.specs.Views.{Follows, after_put}
 use Rattle.outbox.proofs.Rising.{counts_append, are_of_snoc, last_snoc}
 use Rattle.routing.specs.SenderView.{RecipientView, StopView, SenderView}
-use Rattle.routing.specs.Stops.{stop_at, put_in, taken_in, outbox_id, knows_shut, waits_in, puts_at, outbox_at, shut_at, waits_at, written, all_written, Fits, AllFit, is_in, Lists, Keeps, Routed, SentTo, Unrouted}
-use Rattle.routing.specs.Puts.{TakenAt, SeatsTaken, PutAt, RoutedAt, PutTo, RoutedTo, PutOnce}
+use Rattle.routing.specs.Stops.{stop_at, put_in, knows_shut, waits_in, waits_at, written, all_written, Fits, AllFit, is_in, Routed}
+use Rattle.routing.specs.Puts.{TakenAt, PutAt, RoutedAt, PutTo, RoutedTo}
 use Rattle.routing.proofs.Puts.{put_once}
 
 taken_put : (recipients : List RecipientView) (n : ℕ) (o p : Option StopView) → TakenAt recipients n o p → put_in p ≡ put_in o
@@ -16,74 +15,24 @@ taken_put recipients n (Some s) p h = ap put_in h
 taken_put recipients n None None h = refl
 taken_put recipients n None (Some t) h = ap (λ (v : SeatView). v.put) h.1
 
-taken_takes : (recipients : List RecipientView) (n : ℕ) (o p : Option StopView) → TakenAt recipients n o p → taken_in p ≡ taken_in o
-taken_takes recipients n (Some s) p h = ap taken_in h
-taken_takes recipients n None None h = refl
-taken_takes recipients n None (Some t) h = ap (λ (v : SeatView). v.taken) h.1
-
-taken_stay : (recipients : List RecipientView) (n : ℕ) (o p : Option StopView) (outbox : OutboxId) → TakenAt recipients n o p → outbox_id o ≡ Some outbox → outbox_id p ≡ Some outbox
-taken_stay recipients n (Some s) p outbox h e = ap outbox_id h ∙ e
-taken_stay recipients n None p outbox h e = absurd (cc)
-
-taken_theirs : (recipients : List RecipientView) (n : ℕ) (o p : Option StopView) (outbox : OutboxId) → TakenAt recipients n o p → outbox_id p ≡ Some outbox → (outbox_id o ≡ Some outbox) ⊎ Lists recipients n outbox
-taken_theirs recipients n (Some s) p outbox h e = inl (sym (ap outbox_id h) ∙ e)
-taken_theirs recipients n None None outbox h e = absurd (cc)
-taken_theirs recipients n None (Some t) outbox h e =
-    let is : t.outbox ≡ outbox = cc in
-    let P : OutboxId → Type 0 = λ x. Lists recipients n x in inr (subst P is h.0)
-
-taken_shut : (recipients : List RecipientView) (n : ℕ) (o p : Option StopView) → TakenAt recipients n o p → knows_shut o ≡ true → knows_shut p ≡ true
-taken_shut recipients n (Some s) p h e = ap knows_shut h ∙ e
-taken_shut recipients n None p h e = absurd (true≢false (sym e))
-
-taken_waits : (recipients : List RecipientView) (n : ℕ) (o p : Option StopView) → TakenAt recipients n o p → waits_in o ≡ true → waits_in p ≡ true
-taken_waits recipients n (Some s) p h e = ap waits_in h ∙ e
-taken_waits recipients n None p h e = absurd (true≢false (sym e))
-
-taken_fits : (recipients : List RecipientView) (n origin count : ℕ) (o p : Option StopView) → TakenAt recipients n o p → Fits origin count o → Fits origin count p
-taken_fits recipients n origin count (Some s) p h f = let P : Option StopView → Type 0 = λ x. Fits origin count x in subst P (sym h) f
-taken_fits recipients n origin count None None h f = tt
-taken_fits recipients n origin count None (Some t) h f =
-    let P : SeatView → Type 0 = λ v. AreOf origin v.put × (last_of 0 (counts_of v.put) ≤ count) in subst P (sym h.1) (tt, omega arith)
-
 -- what is put after a put, or after its refusal
 view_put : (v w : SeatView) (item : Item) (put : Bool) → w ≡ cond put (after_put v item) v → w.put ≡ v.put ++ cond put (item ∷ []) []
 view_put v w item true e = ap (λ (u : SeatView). u.put) e
 view_put v w item false e = ap (λ (u : SeatView). u.put) e ∙ sym (append-nil v.put)
-
-view_takes : (v w : SeatView) (item : Item) (put : Bool) → w ≡ cond put (after_put v item) v → w.taken ≡ v.taken
-view_takes v w item true e = ap (λ (u : SeatView). u.taken) e
-view_takes v w item false e = ap (λ (u : SeatView). u.taken) e
 
 routed_put : (item : Item) (r f : Bool) (o p : Option StopView) → RoutedAt item r f o p → put_in p ≡ put_in o ++ cond (r && not f) (item ∷ []) []
 routed_put item false f o p h = ap put_in h.1 ∙ sym (append-nil (put_in o))
 routed_put item true f o p h =
     ap put_in h.3 ∙ view_put h.0.seat.view h.1.seat.view item (not f) h.4.view ∙ ap (λ x. put_in x ++ cond (not f) (item ∷ []) []) (sym h.2)
 
-routed_takes : (item : Item) (r f : Bool) (o p : Option StopView) → RoutedAt item r f o p → taken_in p ≡ taken_in o
-routed_takes item false f o p h = ap taken_in h.1
-routed_takes item true f o p h = ap taken_in h.3 ∙ view_takes h.0.seat.view h.1.seat.view item (not f) h.4.view ∙ ap taken_in (sym h.2)
-
-routed_outbox : (item : Item) (r f : Bool) (o p : Option StopView) → RoutedAt item r f o p → outbox_id p ≡ outbox_id o
-routed_outbox item false f o p h = ap outbox_id h.1
-routed_outbox item true f o p h = ap outbox_id h.3 ∙ ap Some h.4.outbox ∙ ap outbox_id (sym h.2)
-
 not_false : (f : Bool) → not f ≡ false → f ≡ true
 not_false true e = refl
 not_false false e = absurd (true≢false e)
-
-routed_shut : (item : Item) (r f : Bool) (o p : Option StopView) → RoutedAt item r f o p → knows_shut o ≡ true → knows_shut p ≡ true
-routed_shut item false f o p h e = ap knows_shut h.1 ∙ e
-routed_shut item true f o p h e = ap knows_shut h.3 ∙ (h.4.shut (ap knows_shut (sym h.2) ∙ e)).1
 
 -- who got a put, or refused one, has to be written out
 routed_waiting : (item : Item) (r f : Bool) (o p : Option StopView) → RoutedAt item r f o p → r ≡ true → waits_in p ≡ true
 routed_waiting item false f o p h is = absurd (true≢false (sym is))
 routed_waiting item true f o p h is = ap waits_in h.3 ∙ h.4.waits
-
-routed_waits : (item : Item) (r f : Bool) (o p : Option StopView) → RoutedAt item r f o p → waits_in o ≡ true → waits_in p ≡ true
-routed_waits item false f o p h e = ap waits_in h.1 ∙ e
-routed_waits item true f o p h e = routed_waiting item true f o p h refl
 
 pub routed_again : (item : Item) (r f : Bool) (o p : Option StopView) → RoutedAt item r f o p → r ≡ true → knows_shut o ≡ true → f ≡ true
 routed_again item false f o p h is e = absurd (true≢false (sym is))
@@ -144,10 +93,6 @@ fits_follows : (origin count : ℕ) (o : Option StopView) → Fits origin count 
 fits_follows origin count None f = tt
 fits_follows origin count (Some s) f = let le = f.1 in (f.0, omega (arith, le))
 
--- taken seats keep what a sender knows of its stops
-pub still_fit : (recipients : List RecipientView) (origin count : ℕ) (old new : List StopView) → AllFit origin count old → SeatsTaken recipients old new → AllFit origin count new
-still_fit recipients origin count old new fits taken n = taken_fits recipients n origin count (stop_at n old) (stop_at n new) (taken n) (fits n)
-
 -- so the next broadcast may be put at each
 pub all_follow : (origin count : ℕ) (stops : List StopView) → AllFit origin count stops → (n : ℕ) → IfSome (stop_at n stops) (λ s. Follows s.seat.view.put (Some (origin, count + 1)))
 all_follow origin count stops fits n = fits_follows origin count (stop_at n stops) (fits n)
@@ -157,61 +102,6 @@ routed_fit item recipients refused origin count old new is fits put n = routed_f
 
 pub sent_fit : (m : ℕ) (item : Item) (put : Bool) (origin count : ℕ) (old new : List StopView) → item.mark ≡ None → AllFit origin count old → PutAt m item put old new → AllFit origin count new
 sent_fit m item put origin count old new is fits now n = sent_fits origin count item (m == n) ((m == n) && not put) (stop_at n old) (stop_at n new) is (put_once item m put old new now n) (fits n)
-
--- seats alone were taken
-pub taken_keeps : (newcomers : List RecipientView) (old new : SenderView) → new.origin ≡ old.origin → SeatsTaken newcomers old.stops new.stops → Keeps newcomers old new
-taken_keeps newcomers old new is taken = record {
-  origin_is = is;
-  stay = λ n outbox e. taken_stay newcomers n (stop_at n old.stops) (stop_at n new.stops) outbox (taken n) e;
-  theirs = λ n outbox e. taken_theirs newcomers n (stop_at n old.stops) (stop_at n new.stops) outbox (taken n) e;
-  shut = λ n e. taken_shut newcomers n (stop_at n old.stops) (stop_at n new.stops) (taken n) e;
-  waits = λ n e. taken_waits newcomers n (stop_at n old.stops) (stop_at n new.stops) (taken n) e;
-  takes = λ n. taken_takes newcomers n (stop_at n old.stops) (stop_at n new.stops) (taken n);
-}
-
-pub taken_unrouted : (newcomers : List RecipientView) (old new : SenderView) → new.count ≡ old.count → SeatsTaken newcomers old.stops new.stops → Unrouted old new
-taken_unrouted newcomers old new is taken = record {
-  count_is = is;
-  puts = λ n. taken_put newcomers n (stop_at n old.stops) (stop_at n new.stops) (taken n);
-}
-
--- a put keeps what a sender keeps
-each_keeps : (item : Item) (r f : ℕ → Bool) (old new : SenderView) → new.origin ≡ old.origin → ((n : ℕ) → RoutedAt item (r n) (f n) (stop_at n old.stops) (stop_at n new.stops)) → Keeps [] old new
-each_keeps item r f old new is each = record {
-  origin_is = is;
-  stay = λ n outbox e. same n ∙ e;
-  theirs = λ n outbox e. inl (sym (same n) ∙ e);
-  shut = λ n e. routed_shut item (r n) (f n) (stop_at n old.stops) (stop_at n new.stops) (each n) e;
-  waits = λ n e. routed_waits item (r n) (f n) (stop_at n old.stops) (stop_at n new.stops) (each n) e;
-  takes = λ n. routed_takes item (r n) (f n) (stop_at n old.stops) (stop_at n new.stops) (each n);
-}
-  where
-    same : (n : ℕ) → outbox_at n new.stops ≡ outbox_at n old.stops
-    same n = routed_outbox item (r n) (f n) (stop_at n old.stops) (stop_at n new.stops) (each n)
-
-pub routed_keeps : (bytes recipients refused : List ℕ) (old new : SenderView) → RoutedTo bytes recipients refused old new → Keeps [] old new
-routed_keeps bytes recipients refused old new h = each_keeps h.item (λ n. is_in n recipients) (λ n. is_in n refused) old new h.origin_is h.change.each
-
-pub sent_keeps : (m : ℕ) (item : Item) (put : Bool) (old new : SenderView) → PutOnce m item put old new → Keeps [] old new
-sent_keeps m item put old new h = each_keeps item (λ n. m == n) (λ n. (m == n) && not put) old new h.origin_is (put_once item m put old.stops new.stops h.change)
-
-both_not : (b put : Bool) → (b && not (b && not put)) ≡ (b && put)
-both_not true true = refl
-both_not true false = refl
-both_not false put = refl
-
-pub sent_to : (m : ℕ) (bytes : List ℕ) (item : Item) (put : Bool) (old new : SenderView) → item.bytes ≡ bytes → item.mark ≡ None → PutOnce m item put old new → SentTo m bytes put old new
-sent_to m bytes item put old new same is h = record {
-  count_is = h.count_is;
-  item = item;
-  bytes_are = same;
-  mark_is = is;
-  puts = λ n.
-      routed_put item (m == n) ((m == n) && not put) (stop_at n old.stops) (stop_at n new.stops) (put_once item m put old.stops new.stops h.change n)
-      ∙ ap (λ (b : Bool). puts_at n old.stops ++ cond b (item ∷ []) []) (both_not (m == n) put);
-  waits =
-      routed_waiting item (m == m) ((m == m) && not put) (stop_at m old.stops) (stop_at m new.stops) (put_once item m put old.stops new.stops h.change m) (eq-eqb m m refl);
-}
 
 pub routed : (bytes recipients refused : List ℕ) (old new : SenderView) → RoutedTo bytes recipients refused old new → Routed bytes recipients refused old new
 routed bytes recipients refused old new h = record {
@@ -225,15 +115,6 @@ routed bytes recipients refused old new h = record {
   again = λ n e shut. routed_again h.item (is_in n recipients) (is_in n refused) (stop_at n old.stops) (stop_at n new.stops) (h.change.each n) e shut;
   waits = λ n e. routed_waiting h.item (is_in n recipients) (is_in n refused) (stop_at n old.stops) (stop_at n new.stops) (h.change.each n) e;
 }
-
--- an outbox that refuses a message is shut, and one that is known to be shut refuses it
-pub sent_full : (m : ℕ) (item : Item) (old new : SenderView) → PutOnce m item false old new → shut_at m new.stops ≡ true
-sent_full m item old new h = (routed_listed item (m == m) ((m == m) && true) (stop_at m old.stops) (stop_at m new.stops) (put_once item m false old.stops new.stops h.change m) (ap (λ b. b && true) (eq-eqb m m refl))).1
-
-pub sent_shut : (m : ℕ) (item : Item) (put : Bool) (old new : SenderView) → PutOnce m item put old new → shut_at m old.stops ≡ true → put ≡ false
-sent_shut m item put old new h e =
-    let was : h.change.before.seat.knows_shut ≡ true = ap knows_shut (sym h.change.was) ∙ e in
-    (h.change.change.shut was).0
 
 -- the stops of these recipients alone
 kept_pick : (recipients : List ℕ) (n : ℕ) (s : StopView) (rest kept : List StopView) (b e : Bool) → is_in s.recipient recipients ≡ b → (s.recipient == n) ≡ e → stop_at n kept ≡ cond (is_in n recipients) (stop_at n rest) None

@@ -7,10 +7,6 @@ use Rattle.routing.specs.SenderView.{RecipientView, StopView}
 use Rattle.routing.specs.Stops.{is_for, stop_at, HasStop}
 use Rattle.routing.specs.Puts.{TakenAt, SeatsTaken}
 
-pub taken_same : (recipients : List RecipientView) (n : ℕ) (o : Option StopView) → TakenAt recipients n o o
-taken_same recipients n None = tt
-taken_same recipients n (Some s) = refl
-
 -- a new stop after the others is this recipient's, where it had none
 pub new_taken : (r : RecipientView) (t : StopView) (old : List StopView) → t.recipient ≡ r.number → t.outbox ≡ r.outbox → t.seat.view ≡ blank → t.is_waiting ≡ false → SeatsTaken (r ∷ []) old (old ++ t ∷ [])
 new_taken r t old is at new none n =

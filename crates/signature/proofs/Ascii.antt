@@ -5,14 +5,8 @@ use Rattle.std.specs.Str.{IsAscii}
 use Rattle.std.proofs.lemmas.Bool.Decides.{nat_tests}
 use Rattle.std.proofs.lemmas.Bool.{and_parts}
 use Rattle.std.proofs.lemmas.Str.Ascii.{IsAscii-cons}
-use Rattle.signature.specs.Name.{is_letter, is_digit, may_begin, may_follow, path_form, are_elements, is_path}
+use Rattle.signature.specs.Name.{may_begin, may_follow, path_form, are_elements, is_path}
 use Rattle.signature.proofs.Elements.{rest_are, rest_are-cons}
-
-letter_low : (b : ℕ) → is_letter b ≡ true → b < 128
-letter_low b h = grind (arith, nat_tests)
-
-digit_low : (b : ℕ) → is_digit b ≡ true → b < 128
-digit_low b h = grind (arith, nat_tests)
 
 begins_low : (b : ℕ) → may_begin path_form b ≡ true → b < 128
 begins_low b h = grind (arith, nat_tests)

@@ -8,7 +8,6 @@ use Rattle.message_value.specs.Order.{order_byte}
 use Rattle.message_value.specs.declared.order.Order.{Order}
 use Rattle.message_value.specs.declared.order.Order.TheVariants.{Little, Big}
 use Rattle.message_view.specs.declared.extent.Extent.{Extent}
-use Rattle.message_view.specs.declared.extent.TextField.{TextField}
 use Rattle.message_view.specs.declared.extent.TextField.TheVariants.{Path, Interface, Member, ErrorName, Destination, Sender}
 use Rattle.message_view.specs.Header.{kind_byte}
 use Rattle.message_view.specs.Message.{Message, reply_serial_of}
@@ -22,7 +21,7 @@ use Rattle.message_view.proofs.FieldTexts.{Said, texts_said}
 use Rattle.message_view.proofs.ArgumentPlaces.{TextStands, HavePlaces, message_places}
 use Rattle.summary.specs.declared.edition.Edition.{Edition}
 use Rattle.summary.specs.declared.edition.Edition.TheVariants.{One, Two}
-use Rattle.summary.specs.Layout.{text_place, summary_len}
+use Rattle.summary.specs.Layout.{summary_len}
 use Rattle.summary.specs.ImageBytes.{extent_words, text_words, argument_words, arguments_words, owned_words, serial_words, head_words, texts_words, summary_words, summary_bytes, image_bytes}
 use Rattle.summary.specs.Shown.{Lies, Tells, ShowsText, ShowsArgument, slots_of, ShowsHead, ShowsSerials, Shows}
 use Rattle.summary.proofs.SummaryWords.{Follow, length-words_bytes, all_follow, next_follow, one_follows}
@@ -271,12 +270,3 @@ image_shows edition bytes m slots valid all small =
     words_show edition (image_bytes edition m slots) bytes m slots valid all small
     (record { summary = summary_bytes edition m slots; parts = refl; size = length-summary_bytes edition m slots all; fits = fits })
     (all_follow (summary_words edition m slots) (message_bytes m))
-
--- The words at the place of a field's text show it.
-pub shows_text : (edition : Edition) (image : List ℕ) (m : Message) (slots : List ℕ) (field : TextField) → Shows edition image m slots → ShowsText image (text_place field) (text_of field m)
-shows_text edition image m slots Path shows = shows.path
-shows_text edition image m slots Interface shows = shows.interface
-shows_text edition image m slots Member shows = shows.member
-shows_text edition image m slots ErrorName shows = shows.error_name
-shows_text edition image m slots Destination shows = shows.destination
-shows_text edition image m slots Sender shows = shows.sender

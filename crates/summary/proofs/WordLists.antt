@@ -1,8 +1,8 @@
 -- The bytes of words that are written one after the other.
-use Rattle.std.proofs.Common.{◌≡◌, ℕ, zero, suc, ◌+◌, ◌*◌, ◌<◌, List, [], ◌∷◌, ◌++◌, length, take, get_or, replicate, min, refl, sym, ap, ◌∙◌, append_assoc, arith, ◌⊎◌, inl, inr}
+use Rattle.std.proofs.Common.{◌≡◌, ℕ, zero, suc, ◌+◌, ◌*◌, ◌<◌, List, [], ◌∷◌, ◌++◌, length, replicate, min, refl, sym, ap, ◌∙◌, append_assoc, arith, ◌⊎◌, inl, inr}
 use Rattle.std.specs.Int.{w32, to_be_bytes}
 use Rattle.std.proofs.lemmas.Grind.{flat_map-append}
-use Rattle.std.proofs.lemmas.List.{append-nil, flat_map_more, take_more, length-append, length-replicate}
+use Rattle.std.proofs.lemmas.List.{append-nil, flat_map_more, length-append, length-replicate}
 use Rattle.message_value.specs.Arguments.{Argument}
 use Rattle.summary.specs.declared.edition.Edition.{Edition}
 use Rattle.summary.specs.ImageBytes.{words_bytes, argument_words, arguments_words}
@@ -48,12 +48,6 @@ head_written front w1 w2 w3 w4 w5 after more order kind flags place len o k f p 
 pub length-words_bytes : (words : List ℕ) → length (words_bytes words) ≡ 4 * length words
 length-words_bytes [] = refl
 length-words_bytes (word ∷ words) = omega (arith, length-words_bytes words)
-
--- the words of a loop over a list
-pub taken_more : (front words before after : List ℕ) (i word : ℕ) → i < length words → word ≡ get_or words i 0 → before ≡ front ++ words_bytes (take i words) → after ≡ before ++ to_be_bytes w32 word → after ≡ front ++ words_bytes (take (i + 1) words)
-taken_more front words before after i word inside here is more =
-    then_word front (take i words) before after word is more
-    ∙ ap (λ (x : List ℕ). front ++ words_bytes x) (ap (λ (w : ℕ). take i words ++ w ∷ []) here ∙ sym (take_more words i 0 inside))
 
 -- ---- arguments
 

@@ -19,11 +19,6 @@ abbrev pub SomeTakes : Ownerships → Message → List RuleTree → Type 0
 SomeTakes owners m [] = ⊥
 SomeTakes owners m (rule ∷ later) = TakesRule owners m rule ⊎ SomeTakes owners m later
 
--- there is no rule, or one of them holds
-abbrev pub AnyTakes : Ownerships → Message → List RuleTree → Type 0
-AnyTakes owners m [] = Unit {0}
-AnyTakes owners m (rule ∷ later) = SomeTakes owners m (rule ∷ later)
-
 -- what a program says of a message whose sender owns none of the names that it asks for: whether its verdict isn't 0
 pub record IsAccepted (program : List Ins) (edition : Edition) (m : Message) (accepted : Bool) : Type 0 where
   pub slots : List ℕ
