@@ -1,1 +1,2 @@
 pub mod Cookies
+pub mod Errors

@@ -17,6 +17,10 @@ pub enum KeyringError {
 }
 
 impl fmt::Display for KeyringError {
+    ghost use Rattle.keyring.specs.Errors.{text_of};
+
+    ghost output = { λ error. text_of error };
+
     fn fmt<W: fmt::Write>(&self, f: &mut fmt::Formatter<W>) -> fmt::Result {
         match self {
             KeyringError::NotPrivate => f.write_str("the folder has to be this user's alone"),

@@ -1,8 +1,44 @@
 -- The limits of a server (own).
-use Rattle.std.specs.Prelude.{ℕ}
+use Rattle.std.specs.Prelude.{ℕ, List, codes}
 use Rattle.server.specs.declared.limit.Limit.{Limit}
 use Rattle.server.specs.declared.limit.Limit.TheVariants.{Rules, AllRules, Instructions, AllInstructions, Names, AllNames, Claims, Calls, Messages, Bytes, Unfinished, Silence, Clients, Newcomers, Hello}
 use Rattle.server.specs.declared.limits.Limits.{Limits}
+
+-- the name of each limit, as words have it
+abbrev pub name_of : Limit → List ℕ
+name_of Rules = codes "rules"
+name_of AllRules = codes "all-rules"
+name_of Instructions = codes "instructions"
+name_of AllInstructions = codes "all-instructions"
+name_of Names = codes "names"
+name_of AllNames = codes "all-names"
+name_of Claims = codes "claims"
+name_of Calls = codes "calls"
+name_of Messages = codes "messages"
+name_of Bytes = codes "bytes"
+name_of Unfinished = codes "unfinished"
+name_of Silence = codes "silence"
+name_of Clients = codes "clients"
+name_of Newcomers = codes "newcomers"
+name_of Hello = codes "hello"
+
+-- what the number of each counts
+abbrev pub unit_of : Limit → List ℕ
+unit_of Rules = codes "rules and programs"
+unit_of AllRules = codes "rules and programs"
+unit_of Instructions = codes "instructions"
+unit_of AllInstructions = codes "instructions"
+unit_of Names = codes "names"
+unit_of AllNames = codes "names"
+unit_of Claims = codes "claims"
+unit_of Calls = codes "calls"
+unit_of Messages = codes "messages"
+unit_of Bytes = codes "bytes"
+unit_of Unfinished = codes "bytes"
+unit_of Silence = codes "seconds"
+unit_of Clients = codes "clients"
+unit_of Newcomers = codes "connections"
+unit_of Hello = codes "seconds"
 
 -- the number of each limit where no other is asked for; of rules, names, newcomers and hello it is dbus-daemon's own
 abbrev pub standard_of : Limit → ℕ

@@ -1,7 +1,7 @@
 // What a server has limits of.
 
-ghost use Rattle.std.specs.Prelude.{◌≡◌};
-ghost use Rattle.server.specs.Limits.{standard_of, most_of};
+ghost use Rattle.std.specs.Prelude.{◌≡◌, IfSome};
+ghost use Rattle.server.specs.Limits.{name_of, unit_of, standard_of, most_of};
 
 /// What a server has a limit of.
 #[derive(Clone, Copy, Debug, PartialEq, Eq)]
@@ -70,13 +70,17 @@ impl Limit {
         Limit::Hello,
     ];
 
-    /// The limit of this name.
-    pub fn of(name: &str) -> Option<Limit> {
+    /// The limit of this name, if there is one.
+    pub fn of(name: &str) -> Option<Limit>
+        ensures { IfSome result (λ limit. name_of limit ≡ name.now) }
+    {
         Limit::ALL.into_iter().find(|limit| limit.name() == name)
     }
 
     /// Its name, as words have it.
-    pub fn name(self) -> &'static str {
+    pub fn name(self) -> &'static str
+        ensures { result.now ≡ name_of self }
+    {
         self.terms().name
     }
 
@@ -95,12 +99,16 @@ impl Limit {
     }
 
     /// What its number counts.
-    pub fn unit(self) -> &'static str {
+    pub fn unit(self) -> &'static str
+        ensures { result.now ≡ unit_of self }
+    {
         self.terms().unit
     }
 
     /// The table of limits.
     fn terms(self) -> Terms
+        ensures name { result.name.now ≡ name_of self }
+        ensures unit { result.unit.now ≡ unit_of self }
         ensures standard { result.standard ≡ standard_of self }
         ensures most { result.most ≡ most_of self }
     {

@@ -20,6 +20,11 @@ impl Cause {
 }
 
 impl fmt::Display for Cause {
+    ghost use Rattle.std.specs.Prelude.{Some};
+    ghost use Rattle.server.specs.Notes.{cause_text};
+
+    ghost output = { λ cause. Some (cause_text cause) };
+
     fn fmt<W: fmt::Write>(&self, f: &mut fmt::Formatter<W>) -> fmt::Result {
         match self {
             Cause::Session(error) => write!(f, "{error}"),
@@ -55,12 +60,22 @@ impl Note {
 }
 
 impl fmt::Display for Note {
+    ghost use Rattle.std.specs.Prelude.{Some};
+    ghost use Rattle.server.specs.Notes.{note_text};
+
+    ghost output = { λ note. Some (note_text note) };
+
     fn fmt<W: fmt::Write>(&self, f: &mut fmt::Formatter<W>) -> fmt::Result {
         match self {
             Note::Came(number) => write!(f, ":1.{number} came"),
             Note::Went(number) => write!(f, ":1.{number} went"),
-            Note::Ended(Some(number), cause) => write!(f, ":1.{number} was ended: {cause}"),
-            Note::Ended(None, cause) => write!(f, "a newcomer was ended: {cause}"),
+            Note::Ended(client, cause) => {
+                match client {
+                    Some(number) => write!(f, ":1.{number}")?,
+                    None => f.write_str("a newcomer")?,
+                }
+                write!(f, " was ended: {cause}")
+            }
             Note::NoDescriptor => f.write_str("no descriptor is left, newcomers are closed"),
             Note::Lost(count) => write!(f, "{count} lines are missing here"),
         }
