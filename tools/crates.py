@@ -217,7 +217,11 @@ def take_kept(rt, wanted):
         if not there.issuperset(it.name for it in crate.below()):
             continue
         if not is_built(rt, crate):
-            if not kept.give(crate, False, kept.key(crate)):
+            key = kept.key(crate)
+            # (what is kept can't be given where a run of the gate has left it in this checkout: it would then be dropped)
+            if kept.at and os.path.isdir(kept.place(crate, False, key)):
+                shutil.rmtree(f"{crate.folder}/out/rlib", ignore_errors=True)
+            if not kept.give(crate, False, key):
                 continue
             note_proved(rt, crate)
         kept.is_built(crate)
