@@ -175,9 +175,9 @@ def served(requests, read):
     if len(messages) > 1:
         got.append(bus.answer(2))
     if len(messages) > 2:
-        answer, changed, acquired = bus.answer(3, "u", (1,)), bus.changed("a.b", "", bus.name), bus.acquired("a.b")
+        changed, acquired, answer = bus.changed("a.b", "", bus.name), bus.acquired("a.b"), bus.answer(3, "u", (1,))
         announced.append(changed)
-        got += [answer, acquired]
+        got += [acquired, answer]
         # At its end its name is given up first. Nobody writes the NameLost that is put for it then.
         bus.lost("a.b")
         announced.append(bus.changed("a.b", bus.name, ""))
@@ -201,12 +201,12 @@ def messages_of_the_bus():
     one = Bus(1)
     one.welcome()
     one_adds = one.answer(2)
-    request, first, owned = one.answer(3, "u", (1,)), one.changed("a.b", "", ":1.1"), one.acquired("a.b")
-    answer, lost, changed, acquired = two.answer(2, "u", (1,)), two.lost("a.b", ":1.1"), two.changed("a.b", ":1.1", ":1.2"), two.acquired("a.b")
+    first, owned, request = one.changed("a.b", "", ":1.1"), one.acquired("a.b"), one.answer(3, "u", (1,))
+    lost, changed, acquired, answer = two.lost("a.b", ":1.1"), two.changed("a.b", ":1.1", ":1.2"), two.acquired("a.b"), two.answer(2, "u", (1,))
     case("name_that_is_taken_over", "1 enters", "2 enters",
          sends(1, call(2, "AddMatch", "s", ("member='NameOwnerChanged'",))), gets(1, one_adds),
-         sends(1, call(3, "RequestName", "su", ("a.b", 1))), gets(1, request, first, owned),
-         sends(2, call(2, "RequestName", "su", ("a.b", 2))), gets(2, answer, acquired), gets(1, lost, changed))
+         sends(1, call(3, "RequestName", "su", ("a.b", 1))), gets(1, first, owned, request),
+         sends(2, call(2, "RequestName", "su", ("a.b", 2))), gets(2, acquired, answer), gets(1, lost, changed))
 
 
 def passed_on():
@@ -243,7 +243,8 @@ def most_names():
         lines += ["1 forgets"] if number % 500 == 499 else []
     error = "error org.freedesktop.DBus -> :1.1 reply_serial=3 org.freedesktop.DBus.Error.LimitsExceeded (s) \"LimitsExceeded: names of the bus (limit all-names)\""
     lines += ["1 forgets", "1 calls 3 RequestName s:a.x u:0", f"1 reads {error}", "1 calls 4 ReleaseName s:a.n7 flags=1", "1 forgets",
-              "1 calls 5 RequestName s:a.x u:0", "1 reads method_return org.freedesktop.DBus -> :1.1 reply_serial=5 (u) 1", "1 forgets"]
+              "1 calls 5 RequestName s:a.x u:0", f"1 reads signal org.freedesktop.DBus -> :1.1 {BUS_PATH} org.freedesktop.DBus.NameAcquired (s) \"a.x\"",
+              "1 reads method_return org.freedesktop.DBus -> :1.1 reply_serial=5 (u) 1", "1 forgets"]
     case("most_names", *lines)
 
 

@@ -68,6 +68,11 @@ impl<M: Mailbox> Monitor<M> {
         self.number
     }
 
+    /// Whether one of its rules asks for a sender by a name that it owns.
+    pub(crate) fn asks_for_owners(&self) -> bool {
+        self.rules.iter().any(|rule| rule.sender_name().is_some())
+    }
+
     /// Whether it wants a message: it has no rules, or one of them holds.
     pub(crate) fn wants<O: Owner>(&self, view: &View<'_>, owner: &O) -> bool
         ensures { (m : Message) → Valid view.now m → MatchBool result (Wants (O.answers owner.now) m self.now.rules) (WantsNot (O.answers owner.now) m self.now.rules) }

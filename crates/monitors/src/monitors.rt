@@ -13,8 +13,9 @@ use std::sync::{Mutex, Wait};
 /// The clients that watch all that goes through a bus, as threads share them.
 #[derive(Drop)]
 pub struct Monitors<M: Mailbox> {
-    // How many there are, which is changed under the lock alone.
+    // How many there are, and how many of them ask who owns a name, which are changed under the lock alone.
     count: AtomicUsize,
+    asking: AtomicUsize,
     list: Mutex<Vec<Monitor<M>>>,
 }
 
@@ -42,6 +43,7 @@ impl<M: Mailbox> Monitors<M> {
     pub fn new(alloc: Global) -> Monitors<M> {
         Monitors {
             count: AtomicUsize::new(0),
+            asking: AtomicUsize::new(0),
             list: Mutex::new(Vec::new(alloc)),
         }
     }
@@ -49,6 +51,21 @@ impl<M: Mailbox> Monitors<M> {
     /// Whether nobody watches. It costs one look at a number, without the lock.
     pub fn is_empty(&self) -> bool {
         self.count.load(Ordering::SeqCst) == 0
+    }
+
+    /// Whether one that watches has a rule that asks for a sender by a name that it owns, without the lock.
+    pub fn ask_for_owners(&self) -> bool {
+        self.asking.load(Ordering::SeqCst) > 0
+    }
+
+    // Notes how many there are. The list is that under the lock.
+    fn note(&self, list: &[Monitor<M>]) {
+        let asking = list
+            .iter()
+            .filter(|monitor| monitor.asks_for_owners())
+            .count();
+        self.count.store(list.len(), Ordering::SeqCst);
+        self.asking.store(asking, Ordering::SeqCst);
     }
 
     /// Adds a connection's monitor with these rules; without rules it gets everything.
@@ -66,7 +83,7 @@ impl<M: Mailbox> Monitors<M> {
         let monitor = Monitor::new(number, mailbox, rules);
         let mut list = self.list.lock(rt);
         list.push(monitor)?;
-        self.count.store(list.len(), Ordering::SeqCst);
+        self.note(&list);
         Ok(())
     }
 
@@ -77,7 +94,7 @@ impl<M: Mailbox> Monitors<M> {
         }
         let mut list = self.list.lock(rt);
         list.retain(|monitor| monitor.number() != number);
-        self.count.store(list.len(), Ordering::SeqCst);
+        self.note(&list);
     }
 
     /// Puts a message into the outbox of each monitor with a rule that holds of it, or without rules, and has it
@@ -95,7 +112,10 @@ impl<M: Mailbox> Monitors<M> {
             return;
         }
         let mut list = self.list.lock(rt);
+        let count = list.len();
         show_all(&mut list, rt, alloc, view, bytes, owner);
-        self.count.store(list.len(), Ordering::SeqCst);
+        if list.len() < count {
+            self.note(&list);
+        }
     }
 }

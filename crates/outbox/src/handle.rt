@@ -122,6 +122,13 @@ impl Outbox {
         put
     }
 
+    /// Shuts the outbox, so that each later put is refused.
+    pub fn shut(&self) {
+        let mut seat = self.seat();
+        let inner: &Inner = &self.inner;
+        inner.word.shared.store::<Shut>(&mut seat.word, 0, 1);
+    }
+
     /// Takes the oldest item, if one is there. The list that the seat has taken stays in each putting seat's order.
     pub(crate) fn pop<R: Wait>(&self, rt: &R, seat: &mut Seat) -> Option<Item>
         requires { seat.old.outbox ≡ self.now }

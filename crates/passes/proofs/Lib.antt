@@ -11,3 +11,4 @@ pub mod Sending
 pub mod Admitted
 pub mod Adding
 pub mod Delivering
+pub mod HeardAlike

@@ -1,5 +1,6 @@
 pub use Rattle.fan_out.specs.Reach
 pub use Rattle.program_table.specs.Connections
+pub use Rattle.program_table.specs.Does
 pub use Rattle.program_table.specs.History
 pub use Rattle.program_table.specs.Recipients
 pub use Rattle.program_table.specs.State
@@ -17,6 +18,7 @@ pub mod Sending
 pub mod Unicasts
 pub mod Deliveries
 pub mod Calls
+pub mod NameCalls
 pub mod Admission
 pub mod Readiness
 pub mod Readings

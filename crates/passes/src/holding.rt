@@ -32,6 +32,16 @@ impl<J: Naming, M: Mailbox> Pass<J, M> {
         }
     }
 
+    /// Gives up what was put since `hold`: no outbox ever gives it out. Each outbox into which the pass has put something since
+    /// it last was written out is shut, since what stands there after it isn't given out either.
+    pub fn withdraw(&mut self)
+        ensures { self.new ≡ self.old }
+    {
+        if let Some(sender) = &mut self.sender {
+            sender.withdraw();
+        }
+    }
+
     /// A message that isn't a broadcast, for a put at one outbox, held with what is put between `hold` and `release`.
     pub fn message(&mut self, alloc: Global, bytes: Bytes) -> Result<Item, AllocError>
         ensures ok { IfOk result (λ item. (item.bytes ≡ bytes) × (item.mark ≡ None)) }

@@ -1,13 +1,19 @@
 // What calls of passes come to together.
 
-ghost use Rattle.std.specs.Prelude.{◌≡◌, ◌++◌, ◌∷◌, [], false, true, ℕ, List};
+ghost use Rattle.std.specs.Prelude.{◌≡◌, ◌++◌, ◌∷◌, [], false, true, ℕ, List, None};
 ghost use mathlib.Core.List.{IsPrefix};
+ghost use Rattle.message_view.specs.Message.{Message};
+ghost use Rattle.program_table.specs.Does.{next_of};
+ghost use Rattle.program_table.specs.Recipients.{AreRecipients};
+ghost use Rattle.program_table.specs.State.{State};
 ghost use Rattle.program_table.specs.declared.command.Command.{Command};
 ghost use Rattle.program_table.specs.declared.command.Reply.{Reply};
 ghost use Rattle.published.specs.Publication.{Publication};
 ghost use Rattle.passes.specs.declared.reading.Source.{Source};
 ghost use Rattle.passes.specs.Passes.{PassState};
 ghost use Rattle.passes.specs.Calls.{IsDone};
+ghost use Rattle.passes.specs.NameCalls.{command_of};
+ghost use Rattle.passes.specs.declared.name_call.NameCall.{NameCall};
 ghost use Rattle.passes.specs.Routes.{HasRouted, is_there};
 ghost use Rattle.passes.specs.Unicasts.{Unicasts};
 ghost use Rattle.passes.specs.declared.unicasts.Sent.{Sent};
@@ -23,6 +29,13 @@ pub fn accepted_is_in_force<M: Mailbox>()
         → IsDone v before command reply w next → IsPrefix w.seen u.seen → IsDone u later other answer x after → IsPrefix (before.history ++ command ∷ []) later.history }
     ensures routed { (v w u x : PassState M) (before next : Publication M) (command : Command M) (reply : Reply) (source : Source) (bytes recipients refused : List ℕ)
         → IsDone v before command reply w next → IsPrefix w.seen u.seen → HasRouted M.outbox_of source bytes u recipients refused x → IsPrefix (before.history ++ command ∷ []) x.seen }
+{}
+
+/// A call about names doesn't change who hears the bus: the recipients of a message of the bus are the same before its command
+/// and after it. So a change of an owner may be put to its recipients before its command is published.
+pub fn bus_is_heard_by_the_same<M: Mailbox>()
+    ensures { (s : State M) (connection : ℕ) (call : NameCall) (m : Message) (numbers : List ℕ)
+        → AreRecipients s None m numbers → AreRecipients (next_of s (command_of connection call)) None m numbers }
 {}
 
 /// What is put waits to be written out: where nothing waits at the outbox of a connection that is there, a broadcast or a message

@@ -7,23 +7,18 @@ use Rattle.message_build.specs.declared.error.BuildError.{BuildError}
 use Rattle.bus_messages.specs.Sent.{signal_asked, Builds}
 use Rattle.unique_name.specs.UniqueNames.{unique_name}
 use Rattle.message_build.specs.Building.{AreAsked}
-use Rattle.owners.specs.Numbers.{name_reply_number}
 use Rattle.owners.specs.declared.answer.Change.{Change}
-use Rattle.owners.specs.declared.answer.Named.{Named}
-use Rattle.bus_messages.specs.declared.body.Body.TheVariants.{Number}
 use Rattle.std.specs.Result.{result_and}
 use Rattle.router.specs.Source.TheVariants.{Bus}
 use Rattle.router.specs.Passes.{PassState}
 use Rattle.peers.specs.declared.error.AnswerError.{AnswerError}
 use Rattle.peers.specs.declared.error.AnswerError.TheVariants.{NoMemory}
-use Rattle.peers.specs.Announcements.{IsTold, HasTold, TellsOwner, IsSignalled, HasSignalled, Announces, AnnouncesAny, AnnouncesArrival, told_asked, change_asked, owner_text}
+use Rattle.peers.specs.Announcements.{IsTold, HasTold, TellsOwner, IsSignalled, HasSignalled, Announces, AnnouncesArrival, told_asked, change_asked, owner_text}
 use Rattle.peers.specs.Answers.{IsPut, after_serial}
 use Rattle.peers.specs.Broadcasts.{Broadcasts}
 use Rattle.peers.specs.Passing.{with_pass}
 use Rattle.peers.specs.Arrival.{Registers}
-use Rattle.peers.specs.NameRows.{TellsName}
 use Rattle.peers.specs.Queries.{RepliesText}
-use Rattle.peers.specs.Rows.{Replies}
 use Rattle.peers.specs.declared.request.Request.{Request}
 use Rattle.peers.specs.PeerState.{PeerState, name_of}
 
@@ -90,10 +85,3 @@ module _ {M : Type 0} where
       let A : PeerState M → List ℕ → Type 0 = λ s text. RepliesText request text s answered mid in
       let B : PeerState M → Type 0 = λ s. AnnouncesArrival outbox_of mid announced s in
       (mid, answered, announced, subst (λ s. A s (name_of v)) is (subst (A u) n a), subst B (sym e) b, both_are)
-
-  pub named : (outbox_of : M → OutboxId) (request : Request) (name : Named) (number : ℕ) (v u mid x w : PeerState M) (answered announced result : Result (Unit {0}) AnswerError) → u ≡ v → number ≡ name_reply_number name.answer → Replies request (Number number) u answered mid
-      → AnnouncesAny outbox_of name.change mid announced x → w ≡ x → result ≡ result_and answered announced → TellsName outbox_of request name v result w
-  named outbox_of request name number v u mid x w answered announced result is n a b e both_are =
-      let A : PeerState M → ℕ → Type 0 = λ s k. Replies request (Number k) s answered mid in
-      let B : PeerState M → Type 0 = λ s. AnnouncesAny outbox_of name.change mid announced s in
-      (mid, answered, announced, subst (λ s. A s (name_reply_number name.answer)) is (subst (A u) n a), subst B (sym e) b, both_are)

@@ -10,8 +10,9 @@ use Rattle.router.specs.Passes.{PassState}
 use Rattle.router.specs.Reply.{Reply}
 use Rattle.peers.specs.declared.error.AnswerError.{AnswerError}
 use Rattle.peers.specs.declared.leaving.Leaving.{Leaving}
+use Rattle.peers.specs.declared.leaving.Leaving.TheVariants.{Done, Ended, Refused}
 use Rattle.peers.specs.Announcements.{IsSignalled, change_asked}
-use Rattle.peers.specs.Departure.{IsClosing, Closes, HasLeft}
+use Rattle.peers.specs.Departure.{IsClosing, Closes, ClosesPass, AnswersAfter, HasLeft}
 use Rattle.peers.specs.Passing.{with_pass}
 use Rattle.peers.specs.PeerState.{PeerState, name_of}
 use Rattle.peers.proofs.Calling.{callers_close_none}
@@ -19,7 +20,7 @@ use Rattle.peers.proofs.Rows.{called}
 
 module _ {M : Type 0} where
   pub closed : (outbox_of : M → OutboxId) (u v w : PeerState M) (asked : Result Reply BusError) (pass : PassState M) (leaving : Leaving) → u ≡ v → Once (λ before next. Answers true u.pass before (Close u.pass.connection) asked pass next) → IsClosing outbox_of asked (with_pass u pass) leaving w
-      → Closes outbox_of v leaving w
+      → ClosesPass outbox_of v leaving w
   closed outbox_of u v w asked pass leaving is d g =
       let D : PassState M → Result Reply BusError → PassState M → Type 0 = λ p reply next. Once (λ before after. Answers true p before (Close p.connection) reply next after) in
       let G : Result Reply BusError → PeerState M → Type 0 = λ reply mid. IsClosing outbox_of reply mid leaving w in
@@ -33,13 +34,19 @@ module _ {M : Type 0} where
   signalled outbox_of asked v w (Err error) (is, inr (why, inr (lost, unput))) = ap (λ (p : PassState M). p.is_closed) unput.sends.same
 
   -- whoever is done has closed its pass
-  pub left : (outbox_of : M → OutboxId) (v w : PeerState M) (asked : Result Reply BusError) (pass : PassState M) (leaving : Leaving) → Once (λ before next. Answers true v.pass before (Close v.pass.connection) asked pass next) → IsClosing outbox_of asked (with_pass v pass) leaving w → HasLeft leaving w
-  left outbox_of v w (Ok reply) pass leaving (before, next, done) (is, announced, mid, (made, signal), outcome) =
+  closes : (outbox_of : M → OutboxId) (v w : PeerState M) (asked : Result Reply BusError) (pass : PassState M) (leaving : Leaving) → Once (λ before next. Answers true v.pass before (Close v.pass.connection) asked pass next) → IsClosing outbox_of asked (with_pass v pass) leaving w → HasLeft leaving w
+  closes outbox_of v w (Ok reply) pass leaving (before, next, done) (is, announced, (made, signal)) =
       let P : Leaving → Type 0 = λ l. HasLeft l w in
       let u : PeerState M = with_pass v pass in
-      subst P (sym is) (callers_close_none outbox_of mid w outcome ∙ (signalled outbox_of (change_asked u.serial (name_of u) (Some pass.connection) None) pass mid.pass announced signal ∙ done.2))
-  left outbox_of v w (Err errors.NoMemory) pass leaving once (is, same) = let P : Leaving → Type 0 = λ l. HasLeft l w in subst P (sym is) tt
-  left outbox_of v w (Err error) pass leaving once (is, same) = let P : Leaving → Type 0 = λ l. HasLeft l w in subst P (sym is) tt
+      subst P (sym is) (signalled outbox_of (change_asked u.serial (name_of u) (Some pass.connection) None) pass w.pass announced signal ∙ done.2)
+  closes outbox_of v w (Err errors.NoMemory) pass leaving once (is, same) = let P : Leaving → Type 0 = λ l. HasLeft l w in subst P (sym is) tt
+  closes outbox_of v w (Err error) pass leaving once (is, same) = let P : Leaving → Type 0 = λ l. HasLeft l w in subst P (sym is) tt
+
+  -- and telling those who wait opens none
+  left_after : (outbox_of : M → OutboxId) (v w : PeerState M) (leaving : Leaving) → HasLeft leaving v → AnswersAfter outbox_of leaving v w → HasLeft leaving w
+  left_after outbox_of v w Done closed answers = callers_close_none outbox_of v w answers ∙ closed
+  left_after outbox_of v w Ended closed answers = tt
+  left_after outbox_of v w Refused closed answers = tt
 
   pub left_by : (outbox_of : M → OutboxId) (v w : PeerState M) (leaving : Leaving) → Closes outbox_of v leaving w → HasLeft leaving w
-  left_by outbox_of v w leaving (asked, pass, once, is) = left outbox_of v w asked pass leaving once is
+  left_by outbox_of v w leaving (mid, (asked, pass, once, is), answers) = left_after outbox_of mid w leaving (closes outbox_of v mid asked pass leaving once is) answers

@@ -3,6 +3,7 @@ mod AskedNames
 mod Putting
 mod Passing
 mod Announcing
+mod OwnerChanging
 mod Calling
 mod Rows
 mod Sharing

@@ -1,13 +1,11 @@
 -- The rows of the table of methods.
 use Rattle.std.proofs.Common.{◌≡◌, Result, subst}
-use Rattle.outbox.specs.Seated.{OutboxId}
 use Rattle.router.specs.BusError.{BusError}
 use Rattle.router.specs.Reply.{Reply}
 use Rattle.router.specs.Passes.{PassState}
 use Rattle.peers.specs.declared.error.AnswerError.{AnswerError}
 use Rattle.peers.specs.declared.request.Request.{Request}
 use Rattle.peers.specs.Holdings.{HoldingsState}
-use Rattle.peers.specs.NameRows.{ChangesName, TellsNamed}
 use Rattle.peers.specs.Passing.{with_pass}
 use Rattle.peers.specs.PeerState.{PeerState}
 use Rattle.peers.specs.Rows.{HasCalled, with_holdings, Confirms, IsConfirmed, Numbers, NumbersEntry}
@@ -29,9 +27,3 @@ module _ {M : Type 0} where
   numbered request P change u v w asked pass held result is p h c =
       let Q : HoldingsState → Type 0 = λ x. Numbers request asked (record u { pass = pass; holdings = x }) result w in
       called P (λ reply mid. Numbers request reply (with_holdings (change reply) mid) result w) u v asked pass is p (subst Q h c)
-
-  pub changed : (outbox_of : M → OutboxId) (request : Request) (P : PassState M → Result Reply BusError → PassState M → Type 0) (change : Result Reply BusError → HoldingsState → HoldingsState) (u v w : PeerState M) (asked : Result Reply BusError) (pass : PassState M) (held : HoldingsState) (result : Result (Unit {0}) AnswerError) → u ≡ v → P u.pass asked pass
-      → held ≡ change asked u.holdings → TellsNamed outbox_of request asked (record u { pass = pass; holdings = held }) result w → ChangesName outbox_of request (P v.pass) change v result w
-  changed outbox_of request P change u v w asked pass held result is p h c =
-      let Q : HoldingsState → Type 0 = λ x. TellsNamed outbox_of request asked (record u { pass = pass; holdings = x }) result w in
-      called P (λ reply mid. TellsNamed outbox_of request reply (with_holdings (change reply) mid) result w) u v asked pass is p (subst Q h c)

@@ -5,7 +5,8 @@ use Rattle.owners.specs.Registry.{max_claims}
 use Rattle.router.specs.BusError.{BusError}
 use Rattle.router.specs.BusError.TheVariants as errors
 use Rattle.router.specs.Calls.{Once, Answers, ClaimsNothing}
-use Rattle.router.specs.Command.TheVariants.{DropOne, Close}
+use Rattle.router.specs.Command.TheVariants.{Close}
+use Rattle.router.specs.NameCall.TheVariants.{DropOne}
 use Rattle.router.specs.Publication.{Publication}
 use Rattle.router.specs.Reply.{Reply}
 use Rattle.router.specs.Reply.TheVariants as replies
@@ -15,25 +16,28 @@ use Rattle.peers.specs.declared.leaving.Giving.{Giving}
 use Rattle.peers.specs.declared.leaving.Giving.TheVariants as givings
 use Rattle.peers.specs.declared.leaving.Leaving.{Leaving}
 use Rattle.peers.specs.declared.leaving.Leaving.TheVariants.{Done, Ended, Refused}
-use Rattle.peers.specs.Announcements.{Announces, HasSignalled, change_asked}
+use Rattle.peers.specs.Announcements.{HasSignalled, change_asked}
 use Rattle.peers.specs.Calling.{AnswersCallers}
+use Rattle.peers.specs.OwnerChanges.{ChangesOwner}
 use Rattle.peers.specs.Passing.{with_pass}
 use Rattle.peers.specs.PeerState.{PeerState, name_of}
 use Rattle.peers.specs.Rows.{HasCalled}
 
-module _ {M : Type 0} where
-  -- What giving up a name comes to, by what the bus answered. A change of the owner is announced.
-  abbrev pub IsGiven : (M → OutboxId) → Result Reply BusError → PeerState M → Giving → PeerState M → Type 0
-  IsGiven outbox_of (Ok (replies.Changed change)) v giving w = (giving ≡ givings.Further) × (announced : Result (Unit {0}) AnswerError) × Announces outbox_of change v announced w
-  IsGiven outbox_of (Ok replies.Waiting) v giving w = (giving ≡ givings.Further) × (w ≡ v)
-  IsGiven outbox_of (Ok _) v giving w = (giving ≡ givings.Last) × (w ≡ v)
-  IsGiven outbox_of (Err errors.NoMemory) v giving w = (giving ≡ givings.Refused) × (w ≡ v)
-  IsGiven outbox_of (Err _) v giving w = (giving ≡ givings.Last) × (w ≡ v)
+-- what giving up a name comes to, by what the bus answered
+abbrev pub giving_of : Result Reply BusError → Giving
+giving_of (Ok (replies.Changed change)) = givings.Further
+giving_of (Ok replies.Waiting) = givings.Further
+giving_of (Ok _) = givings.Last
+giving_of (Err errors.NoMemory) = givings.Refused
+giving_of (Err _) = givings.Last
 
-  -- the pass gives up its claim on the least of its names, or it has none in what is published
+module _ {M : Type 0} where
+  -- The pass gives up its claim on the least of its names, and a change of the owner is announced; or it has none in what is
+  -- published.
   abbrev pub GivesUpName : (M → OutboxId) → PeerState M → Giving → PeerState M → Type 0
   GivesUpName outbox_of v giving w =
-      HasCalled (λ asked pass. Once (λ before next. Answers false v.pass before (DropOne v.pass.connection) asked pass next)) (λ asked mid. IsGiven outbox_of asked mid giving w) v
+      ((asked : Result Reply BusError) × (announced : Result (Unit {0}) AnswerError)
+      × Once (λ before next. ChangesOwner outbox_of DropOne v before asked announced w next) × (giving ≡ giving_of asked))
       ⊎ ((giving ≡ givings.Last) × (w ≡ v) × Once (λ (before : Publication M) next. ClaimsNothing v.pass.connection before))
 
   -- this many names were given up, one after the other
@@ -48,17 +52,25 @@ module _ {M : Type 0} where
   AreGivenUp outbox_of false v w =
       (n : ℕ) × (mid : PeerState M) × GivesUpNames outbox_of n v mid × (GivesUpName outbox_of mid givings.Refused w ⊎ ((max_claims < n) × (w ≡ mid)))
 
-  -- What closing the pass comes to, by what the bus answered: that the client's own name is gone is announced, and who waits
-  -- for its replies is told that none will come.
+  -- What closing the pass comes to, by what the bus answered: that the client's own name is gone is announced.
   abbrev pub IsClosing : (M → OutboxId) → Result Reply BusError → PeerState M → Leaving → PeerState M → Type 0
   IsClosing outbox_of (Ok _) v leaving w =
-      (leaving ≡ Done) × (announced : Result (Unit {0}) AnswerError) × (mid : PeerState M)
-      × HasSignalled outbox_of (change_asked v.serial (name_of v) (Some v.pass.connection) None) v announced mid × AnswersCallers outbox_of mid w
+      (leaving ≡ Done) × (announced : Result (Unit {0}) AnswerError) × HasSignalled outbox_of (change_asked v.serial (name_of v) (Some v.pass.connection) None) v announced w
   IsClosing outbox_of (Err errors.NoMemory) v leaving w = (leaving ≡ Refused) × (w ≡ v)
   IsClosing outbox_of (Err _) v leaving w = (leaving ≡ Ended) × (w ≡ v)
 
+  -- the pass is closed
+  abbrev pub ClosesPass : (M → OutboxId) → PeerState M → Leaving → PeerState M → Type 0
+  ClosesPass outbox_of v leaving w = HasCalled (λ asked pass. Once (λ before next. Answers true v.pass before (Close v.pass.connection) asked pass next)) (λ asked mid. IsClosing outbox_of asked mid leaving w) v
+
+  -- who waits for the replies of a client that is gone is told that none will come
+  abbrev pub AnswersAfter : (M → OutboxId) → Leaving → PeerState M → PeerState M → Type 0
+  AnswersAfter outbox_of Done v w = AnswersCallers outbox_of v w
+  AnswersAfter outbox_of Ended v w = w ≡ v
+  AnswersAfter outbox_of Refused v w = w ≡ v
+
   abbrev pub Closes : (M → OutboxId) → PeerState M → Leaving → PeerState M → Type 0
-  Closes outbox_of v leaving w = HasCalled (λ asked pass. Once (λ before next. Answers true v.pass before (Close v.pass.connection) asked pass next)) (λ asked mid. IsClosing outbox_of asked mid leaving w) v
+  Closes outbox_of v leaving w = (mid : PeerState M) × ClosesPass outbox_of v leaving mid × AnswersAfter outbox_of leaving mid w
 
   -- the pass is closed only once no name is left
   abbrev pub ClosesIf : (M → OutboxId) → Bool → PeerState M → Leaving → PeerState M → Type 0

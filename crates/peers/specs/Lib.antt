@@ -16,6 +16,7 @@ pub mod Rows
 pub mod Queries
 pub mod Queues
 pub mod Announcements
+pub mod OwnerChanges
 pub mod Calling
 pub mod NameRows
 pub mod Arrival

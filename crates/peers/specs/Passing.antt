@@ -15,7 +15,7 @@ use Rattle.router.specs.Source.TheVariants.{Own}
 use Rattle.router.specs.History.{after}
 use Rattle.router.specs.Recipients.{AreRecipients}
 use Rattle.router.specs.Passes.{PassState}
-use Rattle.router.specs.Routes.{HasRouted, IsUnrouted}
+use Rattle.router.specs.Routes.{HasRouted, HasNotPut, IsUnrouted}
 use Rattle.router.specs.Unicasts.{Unicasts, IsUnsent}
 use Rattle.router.specs.Sent.{Sent}
 use Rattle.router.specs.Sent.TheVariants as sent
@@ -91,7 +91,12 @@ module _ {M : Type 0} where
   Concludes bytes (Err error) v result w = GivesUp bytes (refusal_of error) v result w
 
   -- a stamped message to the owner of a name, of the bytes that the client sent
-  abbrev pub SendsStamped : (M → OutboxId) → List ℕ → List ℕ → List ℕ → PeerState M → Result (Unit {0}) AnswerError → PeerState M → Type 0
-  SendsStamped outbox_of bytes to stamped v result w =
+  abbrev pub SendsAtOnce : (M → OutboxId) → List ℕ → List ℕ → List ℕ → PeerState M → Result (Unit {0}) AnswerError → PeerState M → Type 0
+  SendsAtOnce outbox_of bytes to stamped v result w =
       (mid : PassState M) × (asked : Result Sent BusError)
       × MatchResult asked (λ sent. Unicasts outbox_of to stamped v.pass sent mid) (λ error. IsUnsent outbox_of error v.pass mid) × Concludes bytes asked (with_pass v mid) result w
+
+  -- the same, maybe after the name was found to have no owner, so that nothing was put
+  abbrev pub SendsStamped : (M → OutboxId) → List ℕ → List ℕ → List ℕ → PeerState M → Result (Unit {0}) AnswerError → PeerState M → Type 0
+  SendsStamped outbox_of bytes to stamped v result w =
+      SendsAtOnce outbox_of bytes to stamped v result w ⊎ ((looked : PassState M) × HasNotPut outbox_of v.pass looked × SendsAtOnce outbox_of bytes to stamped (with_pass v looked) result w)

@@ -7,7 +7,7 @@ use Rattle.bus_messages.specs.declared.call.Call.{Call}
 use Rattle.bus_messages.specs.declared.call.Call.TheVariants as calls
 use Rattle.bus_messages.specs.declared.error_name.ErrorName.TheVariants as names
 use Rattle.bus_messages.specs.Introspection.{introspection_text}
-use Rattle.router.specs.Command.TheVariants.{Detach, Request as RequestName, Release}
+use Rattle.router.specs.Command.TheVariants.{Detach}
 use Rattle.router.specs.Calls.{Once, Answers}
 use Rattle.router.specs.Readings.{AddsMatch, RemovesMatch, Attaches}
 use Rattle.peers.specs.Answers.{IsRefused}
@@ -38,9 +38,8 @@ module _ {M : Type 0} where
       WithinShare (program_limit shares (vec_len program) v.holdings) request
       (WithinMemory request (WithinAll request (NumbersEntry request (λ asked pass. Once (λ before next. Attaches edition program.items v.pass before asked pass next)) (after_attach (vec_len program)) v result w) v result w) v result w) v result w
   Performs outbox_of shares request (calls.Detach id) v result w = IsConfirmed request (λ asked pass. Once (λ before next. Answers false v.pass before (Detach v.pass.connection id) asked pass next)) (after_detach id) v result w
-  Performs outbox_of shares request (calls.RequestName name flags) v result w =
-      RequestsName outbox_of shares request name.now (λ asked pass. Once (λ before next. Answers false v.pass before (RequestName v.pass.connection name.now flags) asked pass next)) v result w
-  Performs outbox_of shares request (calls.ReleaseName name) v result w = ReleasesName outbox_of request name.now (λ asked pass. Once (λ before next. Answers false v.pass before (Release v.pass.connection name.now) asked pass next)) v result w
+  Performs outbox_of shares request (calls.RequestName name flags) v result w = RequestsName outbox_of shares request name.now flags v result w
+  Performs outbox_of shares request (calls.ReleaseName name) v result w = ReleasesName outbox_of request name.now v result w
   Performs outbox_of shares request (calls.GetNameOwner name) v result w = AnswersOwner name.now (NamesOwner request) v result w
   Performs outbox_of shares request (calls.NameHasOwner name) v result w = AnswersOwner name.now (TellsWhetherOwned request) v result w
   Performs outbox_of shares request (calls.StartServiceByName name) v result w = AnswersOwner name.now (TellsOfOwned request (Ok (bodies.Number already_running)) names.ServiceUnknown) v result w

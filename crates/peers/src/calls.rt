@@ -1,8 +1,9 @@
 // Calls that clients make of one another, and their replies.
 
-ghost use Rattle.std.specs.Prelude.{◌≡◌};
+ghost use Rattle.std.specs.Prelude.{◌≡◌, ◌<◌};
 ghost use Rattle.peers.specs.Answers.{SlowIfShut};
 ghost use Rattle.peers.specs.Calling.{SendsCall, SendsReply, AnswersCallers, AnswersCaller};
+ghost use Rattle.peers.specs.Passing.{SendsAtOnce};
 
 use crate::context::Context;
 use crate::error::AnswerError;
@@ -11,7 +12,7 @@ use crate::refused::Refused;
 use crate::request::Request;
 use bus_messages::{Bytes, ErrorName, Exceeded, UniqueName, error};
 use message_view::View;
-use router::{BusError, Mailbox, Naming, OpenCall, Sent, Source};
+use router::{BusError, Mailbox, Naming, OpenCall, OpenCalls, Sent};
 use std::sync::Wait;
 
 impl<B: Naming, M: Mailbox> Peer<B, M> {
@@ -43,16 +44,30 @@ impl<B: Naming, M: Mailbox> Peer<B, M> {
         if calls.reserve().is_err() {
             return self.give_up(context, view, Refused::Error(ErrorName::NoMemory));
         }
-        let sent = self
-            .pass
-            .send_to(context.rt, context.alloc, Source::Own, to, bytes);
-        if let Some(callee) = callee_of(&sent) {
-            calls.add(OpenCall {
-                caller,
-                serial: request.serial,
-                callee,
-            });
+        let sent = self.send_by_name(context, to, bytes);
+        if let Ok(Sent::NoOwner) = sent {
+            return self.call_at_last(context, &mut calls, view, to, bytes);
         }
+        remember(&mut calls, caller, request.serial, &sent);
+        self.conclude(context, view, sent)
+    }
+
+    // Looks once more for the owner of a name, and says that there is none, under the lock of the bus, as `deliver` does.
+    fn call_at_last<W: Wait, R: Wait + Drop>(
+        &mut self,
+        context: &Context<'_, B, M, W, R>,
+        calls: &mut OpenCalls,
+        view: &View<'_>,
+        to: &str,
+        bytes: &Bytes,
+    ) -> Result<(), AnswerError>
+        requires room { 0 < calls.old.room }
+        ensures outcome { SendsAtOnce M.outbox_of view.now to.now bytes.now self.old result self.new }
+        ensures slow { SlowIfShut result self.new }
+    {
+        let _control = context.bus.control(context.rt);
+        let sent = self.send_by_name(context, to, bytes);
+        remember(calls, self.pass.connection(), view.serial(), &sent);
         self.conclude(context, view, sent)
     }
 
@@ -127,6 +142,19 @@ impl<B: Naming, M: Mailbox> Peer<B, M> {
         let name = Some(to.as_str());
         let built_message = error(context.alloc, serial, name, call.serial, ErrorName::NoReply);
         let _ = self.tell(context, &to, built_message);
+    }
+}
+
+// Remembers a call that went to somebody, for which there is room.
+fn remember(calls: &mut OpenCalls, caller: u64, serial: u32, sent: &Result<Sent, BusError>)
+    requires { 0 < calls.old.room }
+{
+    if let Some(callee) = callee_of(sent) {
+        calls.add(OpenCall {
+            caller,
+            serial,
+            callee,
+        });
     }
 }
 

@@ -64,7 +64,8 @@ pub fn put_refusal<B: Naming, M: Mailbox, W: Wait, R: Wait + Drop>(
 }
 
 impl<B: Naming, M: Mailbox> Peer<B, M> {
-    /// Answers Hello with the client's name, and announces it. Nobody gets one of these messages before all are put.
+    /// Answers Hello with the client's name, and announces it. Nobody gets one of these messages before all are put. The caller has
+    /// held the lock of the bus since the client joined it.
     ///
     /// # Errors
     ///

@@ -1,14 +1,12 @@
 // How a peer leaves the bus.
 
-ghost use Rattle.std.specs.Prelude.{◌≡◌, Result};
-ghost use Rattle.peers.specs.Announcements.{Announces};
-ghost use Rattle.peers.specs.Departure.{Leaves, HasLeft, AreGivenUp, GivesUpName, IsGiven, Closes, IsClosing};
+ghost use Rattle.std.specs.Prelude.{◌≡◌};
+ghost use Rattle.peers.specs.Departure.{Leaves, HasLeft, AreGivenUp, GivesUpName, Closes, ClosesPass, IsClosing, giving_of};
 
 use crate::context::Context;
-use crate::error::AnswerError;
 use crate::peer::Peer;
-use owners::{Change, MAX_CLAIMS};
-use router::{BusError, Mailbox, Naming, Reply, RouteLists};
+use owners::MAX_CLAIMS;
+use router::{BusError, Mailbox, NameCall, Naming, Reply, RouteLists};
 use std::sync::Wait;
 
 /// How far a peer's leaving came.
@@ -82,50 +80,15 @@ impl<B: Naming, M: Mailbox> Peer<B, M> {
     ) -> Giving
         ensures { GivesUpName M.outbox_of self.old result self.new }
     {
-        let _turn = context.bus.turn(context.rt);
-        if context.bus.claims_nothing(context.rt, &self.pass) {
+        let mut control = context.bus.control(context.rt);
+        if control.claims_nothing(&self.pass) {
             return Giving::Last;
         }
-        let dropped = context.bus.drop_name(context.rt, &mut self.pass);
-        self.announce_dropped(context, lists, dropped)
+        let (dropped, _) = self.change_owner(context, lists, &mut control, &NameCall::DropOne);
+        giving_of(dropped)
     }
 
-    // Announces what giving up a name changed.
-    fn announce_dropped<W: Wait, R: Wait + Drop>(
-        &mut self,
-        context: &Context<'_, B, M, W, R>,
-        lists: &mut RouteLists,
-        dropped: Result<Reply, BusError>,
-    ) -> Giving
-        ensures { IsGiven M.outbox_of dropped self.old result self.new }
-    {
-        match dropped {
-            Ok(Reply::Changed(change)) => {
-                self.announce_held(context, lists, &change);
-                Giving::Further
-            }
-            Ok(Reply::Waiting) => Giving::Further,
-            Ok(_) => Giving::Last,
-            Err(BusError::NoMemory) => Giving::Refused,
-            Err(_) => Giving::Last,
-        }
-    }
-
-    // Announces a change. Nobody gets one of these messages before all are put.
-    fn announce_held<W: Wait, R: Wait + Drop>(
-        &mut self,
-        context: &Context<'_, B, M, W, R>,
-        lists: &mut RouteLists,
-        change: &Change,
-    )
-        ensures { (announced : Result (Unit {0}) AnswerError) × Announces M.outbox_of change.now self.old announced self.new }
-    {
-        self.pass.hold(context.alloc);
-        let _ = self.announce(context, lists, change);
-        self.pass.release();
-    }
-
-    // Takes the connection off the bus.
+    // Takes the connection off the bus, and ends the calls that wait.
     fn close<W: Wait, R: Wait + Drop>(
         &mut self,
         context: &Context<'_, B, M, W, R>,
@@ -134,11 +97,27 @@ impl<B: Naming, M: Mailbox> Peer<B, M> {
         ensures leaves { Closes M.outbox_of self.old result self.new }
         ensures closed { HasLeft result self.new }
     {
-        let closed = context.bus.close(context.rt, &mut self.pass);
+        let leaving = self.close_pass(context, lists);
+        if leaving == Leaving::Done {
+            self.end_calls(context);
+        }
+        leaving
+    }
+
+    // Takes the connection off the bus, and announces that before anybody is answered that it is gone.
+    fn close_pass<W: Wait, R: Wait + Drop>(
+        &mut self,
+        context: &Context<'_, B, M, W, R>,
+        lists: &mut RouteLists,
+    ) -> Leaving
+        ensures { ClosesPass M.outbox_of self.old result self.new }
+    {
+        let mut control = context.bus.control(context.rt);
+        let closed = control.close(&mut self.pass);
         self.announce_closed(context, lists, closed)
     }
 
-    // Announces that the client's unique name is gone, if its pass was closed, and ends the calls that wait.
+    // Announces that the client's unique name is gone, if its pass was closed.
     fn announce_closed<W: Wait, R: Wait + Drop>(
         &mut self,
         context: &Context<'_, B, M, W, R>,
@@ -151,11 +130,22 @@ impl<B: Naming, M: Mailbox> Peer<B, M> {
             Ok(_) => {
                 context.bus.tally_of_gone().add(self.own.tally().counts());
                 let _ = self.announce_departure(context, lists);
-                self.end_calls(context);
                 Leaving::Done
             }
             Err(BusError::NoMemory) => Leaving::Refused,
             Err(_) => Leaving::Ended,
         }
+    }
+}
+
+/// What giving up a name came to, by what the bus answered.
+fn giving_of(dropped: Result<Reply, BusError>) -> Giving
+    ensures { result ≡ giving_of dropped }
+{
+    match dropped {
+        Ok(Reply::Changed(_)) | Ok(Reply::Waiting) => Giving::Further,
+        Ok(_) => Giving::Last,
+        Err(BusError::NoMemory) => Giving::Refused,
+        Err(_) => Giving::Last,
     }
 }

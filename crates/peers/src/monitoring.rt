@@ -31,12 +31,31 @@ impl<B: Naming, M: Mailbox> Peer<B, M> {
         context: &Context<'_, B, M, W, R>,
         view: &View<'_>,
     ) {
+        self.show_from(context, view, Some(self.pass.connection()));
+    }
+
+    /// Shows the client's first message, as `show` does, under the lock of the bus. It owns no well-known name yet, so nobody
+    /// has to be asked whose it is.
+    pub fn show_first<W: Wait, R: Wait + Drop>(
+        &self,
+        context: &Context<'_, B, M, W, R>,
+        view: &View<'_>,
+    ) {
+        self.show_from(context, view, None);
+    }
+
+    // Shows a message of one whose well-known names are those of this connection, or none.
+    fn show_from<W: Wait, R: Wait + Drop>(
+        &self,
+        context: &Context<'_, B, M, W, R>,
+        view: &View<'_>,
+        owner: Option<u64>,
+    ) {
         if context.bus.monitors().is_empty() {
             return;
         }
         if let Ok(bytes) = stamp_message(context.alloc, view, &self.name) {
-            let number = Some(self.pass.connection());
-            context.bus.show(context.rt, context.alloc, number, &bytes);
+            context.bus.show(context.rt, context.alloc, owner, &bytes);
         }
     }
 

@@ -1,10 +1,9 @@
 // The calls that change who owns a name.
 
-ghost use Rattle.std.specs.Prelude.{◌≡◌, false};
-ghost use Rattle.router.specs.Calls.{Once, Answers};
-ghost use Rattle.router.specs.Command.TheVariants.{Request as RequestName, Release};
+ghost use Rattle.std.specs.Prelude.{◌≡◌, IfErr};
 ghost use Rattle.peers.specs.Answers.{UnlessShut};
-ghost use Rattle.peers.specs.NameRows.{RequestsName, ReleasesName, TellsNamed, TellsName};
+ghost use Rattle.peers.specs.NameRows.{RequestsName, ReleasesName, TellsNamed};
+ghost use Rattle.peers.specs.OwnerChanges.{ChangesOwner, ChangesAhead};
 
 use crate::context::Context;
 use crate::error::AnswerError;
@@ -12,8 +11,8 @@ use crate::peer::Peer;
 use crate::refused::Refused;
 use crate::request::Request;
 use bus_messages::{Body, ErrorName};
-use owners::{Named, WellKnown};
-use router::{BusError, Mailbox, Naming, Reply, RouteLists};
+use owners::{Change, WellKnown};
+use router::{BusError, Control, Mailbox, NameCall, Naming, Reply, RouteLists};
 use std::sync::Wait;
 
 impl<B: Naming, M: Mailbox> Peer<B, M> {
@@ -25,7 +24,7 @@ impl<B: Naming, M: Mailbox> Peer<B, M> {
         name: &str,
         flags: u32,
     ) -> Result<(), AnswerError>
-        ensures row { RequestsName M.outbox_of context.now.shares request name.now (λ asked pass. Once (λ before next. Answers false self.old.pass before (RequestName self.old.pass.connection name.now flags) asked pass next)) self.old result self.new }
+        ensures row { RequestsName M.outbox_of context.now.shares request name.now flags self.old result self.new }
         ensures error { UnlessShut request.wants_answer result self.new }
     {
         let Ok(name) = WellKnown::read(name) else {
@@ -34,11 +33,12 @@ impl<B: Naming, M: Mailbox> Peer<B, M> {
         if let Err(why) = self.holdings.admit_name(context.shares, &name) {
             return self.refuse(context, request, why);
         }
-        let _turn = context.bus.turn(context.rt);
-        let bus = context.bus;
-        let asked = bus.request_name(context.rt, &mut self.pass, &name, flags);
+        let mut control = context.bus.control(context.rt);
+        let call = NameCall::Request(name.copy(), flags);
+        let (asked, announced) = self.change_owner(context, lists, &mut control, &call);
         self.holdings.note_request(&name, &asked);
-        self.answer_named(context, lists, request, asked)
+        let answered = self.answer_named(context, request, asked);
+        announced.and(answered)
     }
 
     pub(crate) fn release_name<W: Wait, R: Wait + Drop>(
@@ -48,51 +48,82 @@ impl<B: Naming, M: Mailbox> Peer<B, M> {
         request: Request,
         name: &str,
     ) -> Result<(), AnswerError>
-        ensures row { ReleasesName M.outbox_of request name.now (λ asked pass. Once (λ before next. Answers false self.old.pass before (Release self.old.pass.connection name.now) asked pass next)) self.old result self.new }
+        ensures row { ReleasesName M.outbox_of request name.now self.old result self.new }
         ensures error { UnlessShut request.wants_answer result self.new }
     {
         let Ok(name) = WellKnown::read(name) else {
             return self.refuse(context, request, Refused::Error(ErrorName::InvalidArgs));
         };
-        let _turn = context.bus.turn(context.rt);
-        let released = context.bus.release_name(context.rt, &mut self.pass, &name);
-        self.holdings.note_release(&name, &released);
-        self.answer_named(context, lists, request, released)
+        let mut control = context.bus.control(context.rt);
+        let call = NameCall::Release(name.copy());
+        let (asked, announced) = self.change_owner(context, lists, &mut control, &call);
+        self.holdings.note_release(&name, &asked);
+        let answered = self.answer_named(context, request, asked);
+        announced.and(answered)
+    }
+
+    /// Makes a call that may change who owns a name, under the lock of the bus. A change is announced before it is in force, and
+    /// given out once it is: so whoever finds the new owner, or hears from it, has the announcement in front of that. A change for
+    /// whose command memory is refused, which ends the bus, is never given out.
+    ///
+    /// # Errors
+    ///
+    /// That of the call, and that of the announcement, which is `NoMemory`.
+    pub(crate) fn change_owner<W: Wait, R: Wait + Drop>(
+        &mut self,
+        context: &Context<'_, B, M, W, R>,
+        lists: &mut RouteLists,
+        control: &mut Control<B, M, R>,
+        call: &NameCall,
+    ) -> (Result<Reply, BusError>, Result<(), AnswerError>)
+        ensures changes { ChangesOwner M.outbox_of call.now self.old control.old result.0 result.1 self.new control.new }
+        ensures error { IfErr result.1 (λ error. error ≡ AnswerError.NoMemory) }
+    {
+        match control.foresee(&mut self.pass, call) {
+            Ok(Some(change)) => self.change_announced(context, lists, control, call, &change),
+            Ok(None) => (control.change_name(&mut self.pass, call), Ok(())),
+            Err(error) => (Err(error), Ok(())),
+        }
+    }
+
+    // Announces the change that a call will make, and then makes the call.
+    fn change_announced<W: Wait, R: Wait + Drop>(
+        &mut self,
+        context: &Context<'_, B, M, W, R>,
+        lists: &mut RouteLists,
+        control: &mut Control<B, M, R>,
+        call: &NameCall,
+        change: &Change,
+    ) -> (Result<Reply, BusError>, Result<(), AnswerError>)
+        ensures changes { ChangesAhead M.outbox_of call.now change.now self.old control.old result.0 result.1 self.new control.new }
+        ensures error { IfErr result.1 (λ error. error ≡ AnswerError.NoMemory) }
+    {
+        self.pass.hold(context.alloc);
+        let announced = self.announce(context, lists, change);
+        let asked = control.change_name(&mut self.pass, call);
+        if asked.is_ok() {
+            self.pass.release();
+        } else {
+            self.pass.withdraw();
+        }
+        (asked, announced)
     }
 
     fn answer_named<W: Wait, R: Wait + Drop>(
         &mut self,
         context: &Context<'_, B, M, W, R>,
-        lists: &mut RouteLists,
         request: Request,
         reply: Result<Reply, BusError>,
     ) -> Result<(), AnswerError>
-        ensures row { TellsNamed M.outbox_of request reply self.old result self.new }
+        ensures row { TellsNamed request reply self.old result self.new }
         ensures error { UnlessShut request.wants_answer result self.new }
     {
         match reply {
-            Ok(Reply::Name(named)) => self.tell_named(context, lists, request, &named),
+            Ok(Reply::Name(named)) => {
+                self.answer(context, request, Body::Number(named.answer.number()))
+            }
             Ok(_) => Ok(()),
             Err(error) => self.refuse(context, request, Refused::from(error)),
         }
-    }
-
-    // The answer, and then what changed. A change is announced even if its answer finds no room. Nobody gets one of these
-    // messages before all are put.
-    fn tell_named<W: Wait, R: Wait + Drop>(
-        &mut self,
-        context: &Context<'_, B, M, W, R>,
-        lists: &mut RouteLists,
-        request: Request,
-        named: &Named,
-    ) -> Result<(), AnswerError>
-        ensures row { TellsName M.outbox_of request named.now self.old result self.new }
-        ensures error { UnlessShut request.wants_answer result self.new }
-    {
-        self.pass.hold(context.alloc);
-        let answered = self.answer(context, request, Body::Number(named.answer.number()));
-        let announced = self.announce_any(context, lists, &named.change);
-        self.pass.release();
-        answered.and(announced)
     }
 }

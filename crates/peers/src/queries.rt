@@ -1,4 +1,5 @@
-// The calls that only ask.
+// The calls that only ask. What is asked about names is found and answered under the lock of the bus, so that no answer comes before
+// the announcement of what it tells, nor after that of a later change.
 
 ghost use Rattle.std.specs.Prelude.{◌≡◌, ◌++◌, ◌∷◌, map, IfOk, MatchResult};
 ghost use Rattle.signature.specs.Name.{bus_name};
@@ -37,6 +38,7 @@ impl<B: Naming, M: Mailbox> Peer<B, M> {
         ensures row { AnswersOwner name.now (NamesOwner request) self.old result self.new }
         ensures error { UnlessShut request.wants_answer result self.new }
     {
+        let _control = context.bus.control(context.rt);
         match self.owner_named(name) {
             Ok(Some(Owner::Bus)) => self.answer_text(context, request, BUS_NAME),
             Ok(Some(Owner::Connection(number))) => {
@@ -57,6 +59,7 @@ impl<B: Naming, M: Mailbox> Peer<B, M> {
         ensures row { AnswersOwner name.now (TellsWhetherOwned request) self.old result self.new }
         ensures error { UnlessShut request.wants_answer result self.new }
     {
+        let _control = context.bus.control(context.rt);
         match self.owner_named(name) {
             Ok(owner) => self.answer(context, request, Body::Truth(owner.is_some())),
             Err(Refused::Error(ErrorName::InvalidArgs)) => {
@@ -78,6 +81,7 @@ impl<B: Naming, M: Mailbox> Peer<B, M> {
         ensures row { AnswersOwner name.now (TellsOfOwned request found.entry missing) self.old result self.new }
         ensures error { UnlessShut request.wants_answer result self.new }
     {
+        let _control = context.bus.control(context.rt);
         let why = match (self.owner_named(name), found) {
             (Ok(Some(_)), Ok(body)) => return self.answer(context, request, body),
             (Ok(Some(_)), Err(error)) => Refused::Error(error),
@@ -95,6 +99,7 @@ impl<B: Naming, M: Mailbox> Peer<B, M> {
         ensures row { AnswersFound AreAllNames request self.old result self.new }
         ensures error { UnlessShut request.wants_answer result self.new }
     {
+        let _control = context.bus.control(context.rt);
         match self.all_names(context.alloc) {
             Ok((unique, names)) => {
                 self.answer_names(context, request, unique.as_slice(), names.as_slice())
@@ -141,6 +146,7 @@ impl<B: Naming, M: Mailbox> Peer<B, M> {
         ensures row { AnswersFound (AreQueuedFor name.now) request self.old result self.new }
         ensures error { UnlessShut request.wants_answer result self.new }
     {
+        let _control = context.bus.control(context.rt);
         match self.queue_named(context.alloc, name) {
             Ok(queue) => self.answer_queue(context, request, &queue),
             Err(why) => self.refuse(context, request, why),

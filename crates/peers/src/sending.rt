@@ -1,13 +1,14 @@
 // What a client sends to others.
 
 ghost use Rattle.std.specs.Prelude.{◌≡◌, IfOk, MatchResult};
+ghost use Rattle.router.specs.Unicasts.{Unicasts, IsUnsent};
 ghost use Rattle.message_view.specs.Message.{Message};
 ghost use Rattle.message_view.specs.Valid.{Valid};
 ghost use Rattle.message_build.specs.Stamped.{Stamps};
 ghost use Rattle.unique_name.specs.UniqueNames.{unique_name};
 ghost use Rattle.peers.specs.Answers.{SlowIfShut};
 ghost use Rattle.peers.specs.Calling.{HasSent, GoesOn};
-ghost use Rattle.peers.specs.Passing.{HasBroadcast, SendsStamped, Concludes, GivesUp};
+ghost use Rattle.peers.specs.Passing.{HasBroadcast, SendsStamped, SendsAtOnce, Concludes, GivesUp, with_pass};
 ghost use Rattle.peers.specs.PeerState.{name_of};
 
 use crate::context::Context;
@@ -115,10 +116,42 @@ impl<B: Naming, M: Mailbox> Peer<B, M> {
         ensures outcome { SendsStamped M.outbox_of view.now to.now bytes.now self.old result self.new }
         ensures slow { SlowIfShut result self.new }
     {
-        let sent = self
-            .pass
-            .send_to(context.rt, context.alloc, Source::Own, to, bytes);
+        let sent = self.send_by_name(context, to, bytes);
+        if let Ok(Sent::NoOwner) = sent {
+            return self.deliver_at_last(context, view, to, bytes);
+        }
         self.conclude(context, view, sent)
+    }
+
+    // Looks once more for the owner of a name, and says that there is none, under the lock of the bus: so nobody is told that
+    // before the name's last owner has gone for all, nor after a next one was announced.
+    fn deliver_at_last<W: Wait, R: Wait + Drop>(
+        &mut self,
+        context: &Context<'_, B, M, W, R>,
+        view: &View<'_>,
+        to: &str,
+        bytes: &Bytes,
+    ) -> Result<(), AnswerError>
+        ensures outcome { SendsAtOnce M.outbox_of view.now to.now bytes.now self.old result self.new }
+        ensures slow { SlowIfShut result self.new }
+    {
+        let _control = context.bus.control(context.rt);
+        let sent = self.send_by_name(context, to, bytes);
+        self.conclude(context, view, sent)
+    }
+
+    /// Puts a stamped message into the outbox of the owner of a name.
+    pub(crate) fn send_by_name<W: Wait, R: Wait + Drop>(
+        &mut self,
+        context: &Context<'_, B, M, W, R>,
+        to: &str,
+        bytes: &Bytes,
+    ) -> Result<Sent, BusError>
+        ensures sent { MatchResult result (λ sent. Unicasts M.outbox_of to.now bytes.now self.old.pass sent self.new.pass) (λ error. IsUnsent M.outbox_of error self.old.pass self.new.pass) }
+        ensures same { self.new ≡ with_pass self.old self.new.pass }
+    {
+        self.pass
+            .send_to(context.rt, context.alloc, Source::Own, to, bytes)
     }
 
     /// What comes of a message for its sender, by what became of it. An outbox that is full drops it.

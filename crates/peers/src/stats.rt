@@ -88,13 +88,11 @@ fn stats_of_all<B: Naming, M: Mailbox, W: Wait, R: Wait + Drop>(
 }
 
 /// What is known of one connection, unless it has gone.
-fn stats_of<B: Naming, M: Mailbox, W: Wait, R: Wait + Drop>(
-    rt: &W,
+fn stats_of<B: Naming, M: Mailbox, R: Wait + Drop>(
     alloc: Global,
-    bus: &Bus<B, M, R>,
+    control: &Control<B, M, R>,
     number: u64,
 ) -> Result<Option<Stats>, AllocError> {
-    let control = bus.control(rt);
     let Some(connection) = control
         .connections()
         .iter()
@@ -196,20 +194,22 @@ impl<B: Naming, M: Mailbox> Peer<B, M> {
         ensures row { AnswersInsightLater AreFacts request self.old result self.new }
         ensures error { UnlessShut request.wants_answer result self.new }
     {
+        let control = context.bus.control(context.rt);
         let owner = self.owner_named(name);
-        self.answer_connection_stats(context, request, owner)
+        self.answer_connection_stats(context, &control, request, owner)
     }
 
     fn answer_connection_stats<W: Wait, R: Wait + Drop>(
         &mut self,
         context: &Context<'_, B, M, W, R>,
+        control: &Control<B, M, R>,
         request: Request,
         owner: Result<Option<Owner>, Refused>,
     ) -> Result<(), AnswerError>
         ensures row { AnswersInsight AreFacts request self.old result self.new }
         ensures error { UnlessShut request.wants_answer result self.new }
     {
-        match self.look_at(context, owner) {
+        match self.look_at(context.alloc, control, owner) {
             Ok((number, stats)) => {
                 let name = UniqueName::new(number);
                 let facts = stats.facts(NamedFact {
@@ -222,9 +222,10 @@ impl<B: Naming, M: Mailbox> Peer<B, M> {
         }
     }
 
-    fn look_at<W: Wait, R: Wait + Drop>(
+    fn look_at<R: Wait + Drop>(
         &self,
-        context: &Context<'_, B, M, W, R>,
+        alloc: Global,
+        control: &Control<B, M, R>,
         owner: Result<Option<Owner>, Refused>,
     ) -> Result<(u64, Stats), Refused> {
         self.check_insight()?;
@@ -237,7 +238,7 @@ impl<B: Naming, M: Mailbox> Peer<B, M> {
             }
             Err(why) => return Err(why),
         };
-        match stats_of(context.rt, context.alloc, context.bus, number)? {
+        match stats_of(alloc, control, number)? {
             Some(stats) => Ok((number, stats)),
             None => Err(Refused::Error(ErrorName::NameHasNoOwner)),
         }

@@ -2,6 +2,7 @@ pub use Rattle.passes.specs.Reach
 pub use Rattle.passes.specs.declared.error.BusError
 pub use Rattle.passes.specs.declared.reading.Source
 pub use Rattle.passes.specs.Connections
+pub use Rattle.passes.specs.Does
 pub use Rattle.passes.specs.History
 pub use Rattle.passes.specs.Names
 pub use Rattle.passes.specs.Recipients
@@ -15,6 +16,8 @@ pub use Rattle.passes.specs.Passes
 pub use Rattle.passes.specs.Routes
 pub use Rattle.passes.specs.Unicasts
 pub use Rattle.passes.specs.Calls
+pub use Rattle.passes.specs.NameCalls
+pub use Rattle.passes.specs.declared.name_call.NameCall
 pub use Rattle.passes.specs.Admission
 pub use Rattle.passes.specs.Readings
 pub use Rattle.passes.specs.Asking

@@ -29,8 +29,6 @@ const READERS: usize = 512;
 pub struct Bus<B: Naming, M: Mailbox, R: Wait + Drop> {
     control: Mutex<Control<B, M, R>>,
     kept: Mutex<KeptPasses<B, M>>,
-    // The turn to change an owner and to announce the change.
-    turns: Mutex<()>,
     // The calls that went through and wait for their replies.
     calls: Shards,
     // Those who watch all that goes through.
@@ -81,7 +79,6 @@ impl<B: Naming, M: Mailbox, R: Wait + Drop> Bus<B, M, R> {
                 Ok(Bus {
                     control: Mutex::new(control),
                     kept: Mutex::new(kept),
-                    turns: Mutex::new(()),
                     calls: Shards::new(alloc),
                     monitors: Monitors::new(alloc),
                     gone: Tally::new(),
@@ -92,15 +89,11 @@ impl<B: Naming, M: Mailbox, R: Wait + Drop> Bus<B, M, R> {
     }
 
     /// Waits for the lock, and keeps it while the guard is there. The calls of the guard say what is published before and
-    /// after them; those of the bus below are one of its calls each.
+    /// after them; those of the bus below are one of its calls each. Whoever changes who owns a name keeps the lock until the
+    /// change is announced, and whoever answers who owns one until the answer is put. So what a client is told of names by
+    /// answers and announcements stands in the order of the changes.
     pub fn control(&self, rt: &impl Wait) -> MutexGuard<'_, Control<B, M, R>> {
         self.control.lock(rt)
-    }
-
-    /// Waits for the turn to change who owns a name, and keeps it while the guard is there. Whoever changes an owner
-    /// takes the turn first and announces the change before giving it up, so that changes are announced in their order.
-    pub fn turn(&self, rt: &impl Wait) -> MutexGuard<'_, ()> {
-        self.turns.lock(rt)
     }
 
     /// Waits for the lock of the calls that this connection made and that wait for their replies, and keeps it while the

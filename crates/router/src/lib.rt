@@ -14,7 +14,7 @@ pub use bus::Bus;
 pub use letterbox::Letterbox;
 pub use monitors::Monitors;
 pub use open_calls::{OpenCall, OpenCalls};
-pub use passes::{BusError, Control, Pass, RouteLists, Sent, Source};
+pub use passes::{BusError, Control, NameCall, Pass, RouteLists, Sent, Source};
 
 // Passed on from the crates below, so that the crates above need not name those in crates.txt.
 pub use passes::{

@@ -4,26 +4,35 @@ use crate::bus::Bus;
 use bytes::Bytes;
 use message_view::View;
 use monitors::{Monitors, Owner};
-use passes::{Mailbox, Naming};
+use passes::{Control, Mailbox, Naming};
 use std::alloc::Global;
 use std::sync::Wait;
 
-/// Whom a message is from: a connection, or the bus.
+/// A connection whose message is shown, while the lock of the bus is held.
 #[derive(Drop)]
-struct SenderOf<'a, B: Naming, M: Mailbox, W: Wait, R: Wait + Drop> {
-    rt: &'a W,
-    bus: &'a Bus<B, M, R>,
-    number: Option<u64>,
+struct Sender<'a, B: Naming, M: Mailbox, R: Wait + Drop> {
+    control: &'a Control<B, M, R>,
+    number: u64,
 }
 
-impl<'a, B: Naming, M: Mailbox, W: Wait, R: Wait + Drop> Owner for SenderOf<'a, B, M, W, R> {
+impl<'a, B: Naming, M: Mailbox, R: Wait + Drop> Owner for Sender<'a, B, M, R> {
     ghost answers = { λ s name owns. Unit {0} };
 
     fn owns(&self, name: &str) -> bool {
-        match self.number {
-            Some(number) => self.bus.control(self.rt).owner_of(name) == Some(number),
-            None => false,
-        }
+        self.control.owner_of(name) == Some(self.number)
+    }
+}
+
+/// The bus, or one whose names nobody asks for.
+struct Nameless;
+
+impl Owner for Nameless {
+    ghost use Rattle.std.specs.Prelude.{◌≡◌, false};
+
+    ghost answers = { λ s name owns. owns ≡ false };
+
+    fn owns(&self, _name: &str) -> bool {
+        false
     }
 }
 
@@ -34,8 +43,8 @@ impl<B: Naming, M: Mailbox, R: Wait + Drop> Bus<B, M, R> {
     }
 
     /// Shows a message to those who watch and whose rules hold of it, before it goes on. The number is that of its
-    /// sender's connection; `None` is the bus. The lock of the bus is taken only where a rule asks for a sender by a name
-    /// that is no unique one.
+    /// sender's connection; `None` is the bus. The lock of the bus is taken, before that of those who watch, only if the sender
+    /// is a connection and a rule asks for a sender by a name that is no unique one.
     #[inline(always)]
     pub fn show(&self, rt: &impl Wait, alloc: Global, number: Option<u64>, bytes: &Bytes) {
         if !self.monitors.is_empty() {
@@ -49,11 +58,16 @@ impl<B: Naming, M: Mailbox, R: Wait + Drop> Bus<B, M, R> {
         let Ok(view) = View::read(bytes.as_slice()) else {
             return;
         };
-        let sender = SenderOf {
-            rt,
-            bus: self,
-            number,
-        };
-        self.monitors.show(rt, alloc, &view, bytes, &sender);
+        match number {
+            Some(number) if self.monitors.ask_for_owners() => {
+                let control = self.control(rt);
+                let sender = Sender {
+                    control: &control,
+                    number,
+                };
+                self.monitors.show(rt, alloc, &view, bytes, &sender);
+            }
+            _ => self.monitors.show(rt, alloc, &view, bytes, &Nameless),
+        }
     }
 }

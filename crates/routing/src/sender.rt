@@ -9,7 +9,9 @@ use crate::events::{begin, end};
 use crate::gate::{Gate, OpenGate};
 use crate::mailbox::Mailbox;
 use crate::recipient::Recipient;
-use crate::stops::{Stop, place_of, push_out_all, put_all, put_at, retain, take_seat};
+use crate::stops::{
+    Stop, place_of, push_out_all, put_all, put_at, retain, shut_waiting, take_seat,
+};
 use arrayvec::ArrayVec;
 use bytes::Bytes;
 use outbox::{Item, Releases};
@@ -232,6 +234,16 @@ impl<C: Mailbox> Sender<C> {
         if let Some(releases) = &mut self.releases {
             releases.release();
         }
+    }
+
+    /// Gives up what is held: no outbox ever gives it out. Nor does it give out what stands after it, so each outbox in which
+    /// something was put since it last was written out is shut.
+    pub fn withdraw(&mut self)
+        ensures { self.new ≡ self.old }
+    {
+        self.is_holding = false;
+        self.releases = None;
+        shut_waiting(self.stops.as_slice());
     }
 
     /// Writes out each outbox in which something was put since it last was written out. Nothing is held any more.

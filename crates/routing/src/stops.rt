@@ -151,6 +151,15 @@ pub(crate) fn push_out_all<C: Mailbox, R: Wait>(rt: &R, stops: &mut [Stop<C>])
     }
 }
 
+/// Shuts each outbox in which something was put since it last was written out.
+pub(crate) fn shut_waiting<C>(stops: &[Stop<C>]) {
+    for stop in stops {
+        if stop.is_waiting {
+            stop.outbox.shut();
+        }
+    }
+}
+
 // Whether the number is among these numbers.
 fn is_among(number: u64, numbers: &[u64]) -> bool
     ensures { result ≡ is_in number numbers.now }

@@ -1,12 +1,18 @@
 -- A client that has just joined the bus (own).
-use Rattle.std.specs.Prelude.{◌≡◌, List, Ok}
+use Rattle.std.specs.Prelude.{◌≡◌, ℕ, List, Result, Ok}
+use Rattle.message_view.specs.Message.{Message}
+use Rattle.message_view.specs.Valid.{Valid}
 use Rattle.outbox.specs.Seated.{OutboxId}
 use Rattle.router.specs.Calls.{Once, Connects}
 use Rattle.router.specs.Command.{Command}
 use Rattle.router.specs.Passes.{PassState, new_pass}
 use Rattle.router.specs.Reply.{Reply}
+use Rattle.peers.specs.Arrival.{Registers}
 use Rattle.peers.specs.Holdings.{nothing_held}
+use Rattle.peers.specs.Passing.{IsRequestOf}
 use Rattle.peers.specs.PeerState.{PeerState}
+use Rattle.peers.specs.declared.error.AnswerError.{AnswerError}
+use Rattle.peers.specs.declared.request.Request.{Request}
 
 module _ {M : Type 0} where
   -- a pass that was connected, with a mailbox of this outbox, and did nothing else
@@ -16,3 +22,8 @@ module _ {M : Type 0} where
   -- a peer of such a pass, whose own outbox it is, for which the bus has made no message yet, and which has taken nothing of it
   abbrev pub IsNewcomer : (M → OutboxId) → PeerState M → Type 0
   IsNewcomer outbox_of v = HasJoined outbox_of v.own.outbox v.pass × (v.serial ≡ 1) × (v.holdings ≡ nothing_held)
+
+  -- A newcomer with this outbox, whose call of these bytes was answered and whose name was announced.
+  abbrev pub IsWelcome : (M → OutboxId) → List ℕ → OutboxId → Result (Unit {0}) AnswerError → PeerState M → Type 0
+  IsWelcome outbox_of bytes outbox registered w =
+      (v : PeerState M) × (request : Request) × IsNewcomer outbox_of v × (v.own.outbox ≡ outbox) × ((m : Message) → Valid bytes m → IsRequestOf m request) × Registers outbox_of request v registered w

@@ -11,7 +11,7 @@ use crossbeam_utils::rule::Protocol;
 use message_view::View;
 use peers::{
     AllInstructions, AnswerError, Command, Context, Identity, Mailbox, Naming, OwnOutbox, Peer,
-    Published, Request, RouteLists, Shown, StateReader,
+    Published, RouteLists, Shown, StateReader,
 };
 use std::collections::LinkedList;
 use std::marker::Model;
@@ -168,13 +168,11 @@ impl<B: Naming, M: Mailbox> Client<B, M> {
         let Some(own) = self.own.take() else {
             return Err(SessionError::NoHello);
         };
-        match greet(context, &mut self.reader, own, self.identity, view) {
-            Ok(mut peer) => {
+        match greet(context, lists, &mut self.reader, own, self.identity, view) {
+            Ok((mut peer, registered)) => {
                 if let Some(all) = self.all.take() {
                     peer.share_instructions(all);
                 }
-                peer.show(context, view);
-                let registered = peer.register(context, lists, Request::of(view));
                 self.peer = Some(peer);
                 outcome_of(registered)
             }

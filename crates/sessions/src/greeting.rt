@@ -1,24 +1,25 @@
 // The first message of a session, which has to be Hello.
 
-ghost use Rattle.std.specs.Prelude.{◌≡◌, true, IfOk, MatchResult};
+ghost use Rattle.std.specs.Prelude.{◌≡◌, true, IfOk, IfErr};
 ghost use Rattle.message_view.specs.Message.{Message, interface_of, member_of};
 ghost use Rattle.message_view.specs.Valid.{Valid};
+ghost use Rattle.peers.specs.Answers.{SlowIfShut};
 ghost use Rattle.peers.specs.Handling.{names_bus};
 ghost use Rattle.router.specs.Passes.{new_pass};
 ghost use Rattle.sessions.specs.Hello.{is_hello, is_hello_member};
-ghost use Rattle.sessions.specs.Newcomers.{HasJoined, IsNewcomer};
+ghost use Rattle.sessions.specs.Newcomers.{IsWelcome};
 
 use crate::error::SessionError;
 use bus_messages::Call;
 use message_view::View;
 use peers::{
-    BUS_NAME, BusError, Context, Identity, Mailbox, Naming, OwnOutbox, Pass, Peer, Refused,
-    Request, StateReader, is_for_bus, join, put_refusal,
+    AnswerError, BUS_NAME, BusError, Context, Identity, Mailbox, Naming, OwnOutbox, Pass, Peer,
+    Refused, Request, RouteLists, StateReader, is_for_bus, join, put_refusal,
 };
 use std::sync::Wait;
 
-/// The peer that the first message makes of an outbox, which comes back if it makes none. It reads the bus's state by the
-/// reader that is lent, or else by its own.
+/// The peer that the first message makes of an outbox, which comes back if it makes none, and what became of the answer and the
+/// announcements. It reads the bus's state by the reader that is lent, or else by its own.
 ///
 /// # Errors
 ///
@@ -26,27 +27,70 @@ use std::sync::Wait;
 /// `NoMemory`.
 pub(crate) fn greet<B: Naming, M: Mailbox, W: Wait, R: Wait + Drop>(
     context: &Context<'_, B, M, W, R>,
+    lists: &mut RouteLists,
     lent: &mut Option<StateReader<B, M>>,
-    mut own: OwnOutbox<M>,
+    own: OwnOutbox<M>,
     identity: Identity,
     view: &View<'_>,
-) -> Result<Peer<B, M>, (SessionError, OwnOutbox<M>)>
-    ensures peer { IfOk result (λ peer. IsNewcomer M.outbox_of peer) }
+) -> Result<(Peer<B, M>, Result<(), AnswerError>), (SessionError, OwnOutbox<M>)>
     ensures hello { IfOk result (λ _. (m : Message) → Valid view.now m → is_hello m ≡ true) }
-    ensures outbox { MatchResult result (λ peer. peer.own.outbox ≡ own.outbox) (λ refused. refused.1.outbox ≡ own.outbox) }
+    ensures peer { IfOk result (λ made. IsWelcome M.outbox_of view.now own.outbox made.1 made.0) }
+    ensures slow { IfOk result (λ made. SlowIfShut made.1 made.0) }
+    ensures outbox { IfErr result (λ refused. refused.1.outbox ≡ own.outbox) }
 {
     if !is_hello(view) {
         return Err((SessionError::NoHello, own));
     }
-    match connect_pass(context, lent, &own, view) {
-        Ok(pass) => Ok(Peer::new(context.alloc, pass, own, identity)),
-        Err(Refused::Ended) => Err((SessionError::NoMemory, own)),
-        Err(Refused::Error(name)) => {
-            match put_refusal(context, &mut own, Request::of(view), name) {
-                Ok(()) => Err((SessionError::NoHello, own)),
-                Err(error) => Err((SessionError::from(error), own)),
-            }
+    match pass_for(context, lent, view) {
+        Ok(pass) => let_in(context, lists, pass, own, identity, view),
+        Err(why) => Err(turn_away(context, own, view, why)),
+    }
+}
+
+// Lets a client in that has said Hello. Nobody is answered before its name is announced, since the lock of the bus is kept.
+fn let_in<B: Naming, M: Mailbox, W: Wait, R: Wait + Drop>(
+    context: &Context<'_, B, M, W, R>,
+    lists: &mut RouteLists,
+    mut pass: Pass<B, M>,
+    own: OwnOutbox<M>,
+    identity: Identity,
+    view: &View<'_>,
+) -> Result<(Peer<B, M>, Result<(), AnswerError>), (SessionError, OwnOutbox<M>)>
+    requires { pass ≡ new_pass pass.seen }
+    ensures peer { IfOk result (λ made. IsWelcome M.outbox_of view.now own.outbox made.1 made.0) }
+    ensures slow { IfOk result (λ made. SlowIfShut made.1 made.0) }
+    ensures outbox { IfErr result (λ refused. refused.1.outbox ≡ own.outbox) }
+{
+    let mut control = context.bus.control(context.rt);
+    match join(&mut control, &mut pass, &own) {
+        Ok(()) => {
+            let mut peer = Peer::new(context.alloc, pass, own, identity);
+            peer.show_first(context, view);
+            let registered = peer.register(context, lists, Request::of(view));
+            Ok((peer, registered))
         }
+        Err(why) => {
+            context.give_back(pass);
+            Err(turn_away(context, own, view, why))
+        }
+    }
+}
+
+// Answers a Hello that is refused, and says why the session ends.
+fn turn_away<B: Naming, M: Mailbox, W: Wait, R: Wait + Drop>(
+    context: &Context<'_, B, M, W, R>,
+    mut own: OwnOutbox<M>,
+    view: &View<'_>,
+    why: Refused,
+) -> (SessionError, OwnOutbox<M>)
+    ensures { result.1.outbox ≡ own.outbox }
+{
+    let Refused::Error(name) = why else {
+        return (SessionError::NoMemory, own);
+    };
+    match put_refusal(context, &mut own, Request::of(view), name) {
+        Ok(()) => (SessionError::NoHello, own),
+        Err(error) => (SessionError::from(error), own),
     }
 }
 
@@ -75,25 +119,16 @@ fn names_hello(view: &View<'_>) -> bool
     }
 }
 
-// A pass with a connection whose messages go to the outbox.
-fn connect_pass<B: Naming, M: Mailbox, W: Wait, R: Wait + Drop>(
+// A pass for a client that says Hello.
+fn pass_for<B: Naming, M: Mailbox, W: Wait, R: Wait + Drop>(
     context: &Context<'_, B, M, W, R>,
     lent: &mut Option<StateReader<B, M>>,
-    own: &OwnOutbox<M>,
     view: &View<'_>,
 ) -> Result<Pass<B, M>, Refused>
-    ensures { IfOk result (λ pass. HasJoined M.outbox_of own.now.outbox pass) }
+    ensures { IfOk result (λ pass. pass ≡ new_pass pass.seen) }
 {
     let _ = Call::read(context.alloc, view)?;
-    let mut pass = new_pass(context, lent)?;
-    let joined = join(&mut context.bus.control(context.rt), &mut pass, own);
-    match joined {
-        Ok(()) => Ok(pass),
-        Err(refused) => {
-            context.give_back(pass);
-            Err(refused)
-        }
-    }
+    Ok(new_pass(context, lent)?)
 }
 
 // A pass that did nothing, with the reader that is lent, or else with its own.

@@ -360,6 +360,24 @@ fn released_together(rt: HostRuntime) {
     forget(outbox);
 }
 
+// What is withdrawn is never given out, nor what stands after it: the outbox is shut.
+#[test]
+fn withdrawn_is_never_given_out(rt: HostRuntime) {
+    let alloc = rt.alloc();
+    let outbox = new_outbox(&rt, alloc);
+    let mut taker = new_taker(&rt, &outbox);
+    let mut sender = sender_to(&rt, alloc, &outbox);
+    sender.hold();
+    reply(&rt, alloc, &mut sender, Sent::Put);
+    sender.withdraw();
+    sender.push_out(&rt);
+    expect_none(&rt, &mut taker);
+    assert!(&rt; taker.is_shut());
+    forget(sender);
+    forget(taker);
+    forget(outbox);
+}
+
 // A message that another sender puts after a held one waits for it, and writing out releases what is held.
 #[test]
 fn waits_behind_a_held_message(rt: HostRuntime) {
