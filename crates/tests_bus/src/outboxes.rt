@@ -31,6 +31,11 @@ pub(crate) fn expect_none<R: Wait + Abort>(rt: &R, taker: &mut Taker) {
     assert!(rt; taker.take(rt).is_none());
 }
 
+/// The taker's outbox is shut.
+pub(crate) fn expect_shut<R: Abort>(rt: &R, taker: &mut Taker) {
+    assert!(rt; taker.is_shut());
+}
+
 /// Takes all that the outbox gives out.
 pub(crate) fn take_all<R: Wait + Abort>(rt: &R, alloc: Global, outbox: &Outbox) -> Vec<Delivery> {
     let mut taker = new_taker(rt, outbox);

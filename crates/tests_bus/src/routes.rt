@@ -1,7 +1,8 @@
 // Senders: what no contract says, that a put is made and with which bytes, and calls from several threads.
 
 use crate::outboxes::{
-    expect_both_in_order, expect_next, expect_none, new_bytes, new_outbox, new_taker, take_all,
+    expect_both_in_order, expect_next, expect_none, expect_shut, new_bytes, new_outbox, new_taker,
+    take_all,
 };
 use arrayvec::ArrayVec;
 use outbox::{Delivery, Outbox, Taker};
@@ -372,7 +373,7 @@ fn withdrawn_is_never_given_out(rt: HostRuntime) {
     sender.withdraw();
     sender.push_out(&rt);
     expect_none(&rt, &mut taker);
-    assert!(&rt; taker.is_shut());
+    expect_shut(&rt, &mut taker);
     forget(sender);
     forget(taker);
     forget(outbox);
