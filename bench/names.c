@@ -70,7 +70,7 @@ static uint32_t picture; /* the state as it was announced to the observer */
 static uint32_t acquired, lost;
 static uint32_t changes;
 static _Atomic uint32_t started, announced, least_heard, passed;
-static _Atomic uint32_t answers, ahead, behind, late;
+static _Atomic uint32_t answers, ahead, stale, late;
 static atomic_bool is_over;
 
 static void stop(const char *what) {
@@ -191,7 +191,6 @@ static void take_again(uint32_t number) {
     put(&observer, m.bytes, m.len);
 }
 
-
 /* The reply to a call of the name has the number of the change by which the one who replies owns it. */
 static void reply(struct owner *owner, const unsigned char *call, uint32_t number) {
     struct message m = begun(RETURN, NO_REPLY_EXPECTED, 1), body = {.len = 0};
@@ -204,12 +203,12 @@ static void reply(struct owner *owner, const unsigned char *call, uint32_t numbe
     put_whole(owner, m);
 }
 
-/* A call that reaches a client which hasn't been told that it owns the name is ahead of that, or else behind the loss. */
+/* A call that reaches a client which hasn't been told that it owns the name is ahead of that, or else of before the loss. */
 static void serve_call(struct owner *owner, const unsigned char *call) {
-    bool is_ahead = !owner->is_owner && owner->change <= started, is_behind = !owner->is_owner && !is_ahead;
+    bool is_ahead = !owner->is_owner && owner->change <= started, is_stale = !owner->is_owner && !is_ahead;
     ahead += is_ahead;
-    behind += is_behind;
-    reply(owner, call, is_behind ? owner->change - OWNERS : owner->change);
+    stale += is_stale;
+    reply(owner, call, is_stale ? owner->change - OWNERS : owner->change);
 }
 
 static void treat_as_owner(struct owner *owner, const unsigned char *message) {
@@ -235,7 +234,7 @@ static void *serve(void *given) {
     return NULL;
 }
 
-static struct message asked(enum kind kind, const char *name) {
+static struct message call_about(enum kind kind, const char *name) {
     switch (kind) {
     case GET_OWNER: return bus_call(BUS_NAME, "GetNameOwner", name);
     case HAS_OWNER: return bus_call(BUS_NAME, "NameHasOwner", name);
@@ -249,7 +248,7 @@ static void ask_next(void) {
     uint32_t serial = ++observer.serial, number = question_count++;
     enum kind kind = mode->questions[number % 2];
     const char *name = mode->subject(announced + number / 2 % 2);
-    struct message m = asked(kind, name);
+    struct message m = call_about(kind, name);
     uint32_t bits = mode->bit_of && kind != LIST ? mode->bit_of(name) : EVERY_BIT;
     questions[serial % OPEN] = (struct question){serial, kind, bits};
     memcpy(m.bytes + 8, &serial, 4);
@@ -278,15 +277,15 @@ static void judge(uint32_t bits, uint32_t told) {
         ahead += lead > 0;
         return;
     }
-    behind++;
+    stale++;
 }
 
 static void treat_answer(const unsigned char *message, size_t whole) {
     uint32_t serial = number_at(field_of(message, REPLY_SERIAL));
     struct question *question = &questions[serial % OPEN];
     if (question->serial != serial) stop("an answer to no question");
-    if (message[1] == FAULT && (question->kind != GET_OWNER || strcmp(text_of(message, ERROR_NAME), NO_OWNER)))
-        stop(text_of(message, ERROR_NAME));
+    bool is_no_owner = question->kind == GET_OWNER && !strcmp(text_of(message, ERROR_NAME), NO_OWNER);
+    if (message[1] == FAULT && !is_no_owner) stop(text_of(message, ERROR_NAME));
     open_questions--;
     answers++;
     judge(question->bits, bits_told(question, message, whole));
@@ -429,7 +428,7 @@ static void connect_all(int poll) {
     if (mode->state) picture = mode->state(0);
 }
 
-/* No client falls far behind: the observer by no more changes than are told apart, a listener by no more than it has room for. */
+/* The observer has no more changes to read than are told apart, and a listener no more than it has room for. */
 static void make_changes(void) {
     for (uint32_t number = 1; number <= changes; number++) {
         while (announced + LEAD < number && mode->state) pause_for(PAUSE);
@@ -470,6 +469,6 @@ int main(int words, char **word) {
     int poll = epoll_create1(0);
     connect_all(poll);
     play_all(poll);
-    printf("%u ahead, %u %s, %u answers\n", ahead, mode->state ? behind : late, mode->state ? "behind" : "late", answers);
+    printf("%u ahead, %u %s, %u answers\n", ahead, mode->state ? stale : late, mode->state ? "stale" : "late", answers);
     return 0;
 }

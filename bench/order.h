@@ -10,7 +10,7 @@
 
 enum { ALLOW_REPLACEMENT = 1, REPLACE_EXISTING = 2 };
 
-/* Messages that a client may fall behind: an outbox holds 1,024. */
+/* How many messages wait for a client at most: an outbox holds 1,024. */
 enum { MAX_BEHIND = 400, MAX_BETWEEN = 248 };
 
 /* The microseconds between two looks, and those between two reads of all clients between. */
