@@ -13,7 +13,7 @@
 
 enum { CALL = 1, RETURN = 2, FAULT = 3, SIGNAL = 4 };
 enum { NO_REPLY_EXPECTED = 1 };
-enum { PATH = 1, INTERFACE = 2, MEMBER = 3, ERROR_NAME = 4, REPLY_SERIAL = 5, DESTINATION = 6, SIGNATURE = 8 };
+enum { PATH = 1, INTERFACE = 2, MEMBER = 3, ERROR_NAME = 4, REPLY_SERIAL = 5, DESTINATION = 6, SENDER = 7, SIGNATURE = 8 };
 enum { FIXED = 16, ROOM = 1 << 16 };
 
 #define BUS_NAME "org.freedesktop.DBus"
@@ -173,7 +173,7 @@ static struct message bus_call(const char *interface, const char *member, const 
     return made(CALL, 1, BUS_NAME, BUS_OBJECT, interface, member, argument);
 }
 
-static void ping(struct client *c) { call(c, bus_call("org.freedesktop.DBus.Peer", "Ping", NULL)); }
+static inline void ping(struct client *c) { call(c, bus_call("org.freedesktop.DBus.Peer", "Ping", NULL)); }
 
 static void add(struct client *c, const char *rule) { call(c, bus_call(BUS_NAME, "AddMatch", rule)); }
 

@@ -1,31 +1,21 @@
 /* Whether a reaction is heard before its cause, in one mode: clients on a bus's Unix socket that react at once. See README.md. */
 #define _GNU_SOURCE
-#include "client.h"
-#include <pthread.h>
+#include "order.h"
 #include <signal.h>
-#include <stdatomic.h>
-#include <stdbool.h>
 #include <sys/epoll.h>
 #include <sys/prctl.h>
 #include <sys/time.h>
-#include <time.h>
 
 /* The players, in the order in which they connect. The clients between connect before the last one. */
 enum role { FIRST, NOISY, STARTER, SECOND, THIRD, LAST, ROLES, BUS, EVERYBODY };
 enum between { NONE, EACH, ODD };
-enum { START = -1, MATCHED = 1, MAX_KINDS = 4, NOISE = MAX_KINDS, MAX_BETWEEN = 248, MAX_RULE = 256 };
-enum { ALLOW_REPLACEMENT = 1, REPLACE_EXISTING = 2 };
+enum { START = -1, MATCHED = 1, MAX_KINDS = 4, NOISE = MAX_KINDS, MAX_RULE = 256 };
 
-/* An outbox holds 1,024 messages, so no client falls so far back. */
-enum { WINDOW = 32, BURST = 8, ALL_HEARD = 64, MAX_BEHIND = 400, MAX_NOISE = 4 };
+enum { WINDOW = 32, BURST = 8, ALL_HEARD = 64, MAX_NOISE = 4 };
 
-/* The microseconds between two looks, those between two reads of all clients between, and those after which a read gives up. */
-enum { PAUSE = 10, SWEEP = 1000, READ_ENDS = 100000 };
+/* The microseconds after which a read gives up. */
+enum { READ_ENDS = 100000 };
 
-/* How many seconds without a message end a round: what is left then is missing. */
-#define PATIENCE 10
-
-#define BIT(n) (1u << (n))
 #define OBJECT "/com/example/Order"
 #define INTERFACE_NAME "com.example.Order"
 #define NAME "com.example.order.Name"
@@ -85,10 +75,6 @@ static double seconds(void) {
     return t.tv_sec + t.tv_nsec / 1e9;
 }
 
-static void pause_for(int microseconds) { nanosleep(&(struct timespec){.tv_nsec = microseconds * 1000L}, NULL); }
-
-static uint32_t lesser(uint32_t a, uint32_t b) { return a < b ? a : b; }
-
 static bool is_kind(int i) { return i < MAX_KINDS && mode->kinds[i].member; }
 
 /* Counts a message as heard, and as missing those whose numbers were left out. */
@@ -113,24 +99,6 @@ static void close_kind(struct ear *ear, int kind, uint32_t end) {
     uint32_t next = ear->next[kind], step = ear->step[kind];
     if (next < end) ear->missing += (end - next + step - 1) / step;
     else ear->twice += (next - end) / step;
-}
-
-static uint32_t number_at(const unsigned char *bytes) {
-    uint32_t number;
-    memcpy(&number, bytes, 4);
-    return number;
-}
-
-/* A field of a message that is a text, or an empty one. */
-static const char *text_of(const unsigned char *message, int code) {
-    uint32_t end = FIXED + number_at(message + 12);
-    for (uint32_t at = FIXED; at < end; at = (at + 7) & ~7u) {
-        const unsigned char *field = message + at;
-        char type = field[2];
-        if (field[0] == code) return (const char *)field + (type == 'g' ? 5 : 8);
-        at += type == 'g' ? 4 + 1 + field[4] + 1u : type == 'u' ? 4 + 4u : 4 + 4 + number_at(field + 4) + 1;
-    }
-    return "";
 }
 
 /* The kind of a message, or -1, and its number. Those of the bus bear none, so they have the one that is due. */
@@ -216,11 +184,6 @@ static bool read_some(struct client *c) {
     if (n <= 0) return n < 0 && (errno == EINTR || errno == EAGAIN);
     c->len += n;
     return true;
-}
-
-static void drop_read(struct client *c, size_t len) {
-    memmove(c->unread, c->unread + len, c->len - len);
-    c->len -= len;
 }
 
 static void *play(void *given) {
@@ -321,20 +284,6 @@ static void await_noise(void) {
         while (players[role].ear.next[NOISE] < players[role].noise && seconds() < until) pause_for(PAUSE);
 }
 
-static struct message request_name(uint32_t flags) {
-    struct message m = begun(CALL, 0, 1), body = {.len = 0};
-    text(&body, NAME);
-    pad(&body, 4);
-    word(&body, flags);
-    field(&m, PATH, "o", BUS_OBJECT);
-    field(&m, INTERFACE, "s", BUS_NAME);
-    field(&m, MEMBER, "s", "RequestName");
-    field(&m, DESTINATION, "s", BUS_NAME);
-    field(&m, SIGNATURE, "g", "su");
-    add_body(&m, &body);
-    return m;
-}
-
 /* The rule of those that hear a kind. */
 static const char *rule_of(char rule[MAX_RULE], int kind) {
     const char *conditions = mode->kinds[kind].conditions;
@@ -346,7 +295,7 @@ static void start(uint32_t number) { send_because(START, STARTER, number, 0); }
 
 /* The starter takes the name away from the first player, which stays in the queue, and in the next turn gives it back. */
 static void change_owner(uint32_t number) {
-    struct message m = number % 2 ? bus_call(BUS_NAME, "ReleaseName", NAME) : request_name(REPLACE_EXISTING);
+    struct message m = number % 2 ? bus_call(BUS_NAME, "ReleaseName", NAME) : request_name(NAME, REPLACE_EXISTING);
     put_next(&players[STARTER], &m);
 }
 
@@ -445,7 +394,7 @@ static void connect_all(int poll) {
     for (int role = 0; role < LAST; role++) connect_player(role);
     struct client *first = &players[FIRST].client;
     char rule[MAX_RULE];
-    if (mode->turn == change_owner) call(first, request_name(ALLOW_REPLACEMENT));
+    if (mode->turn == change_owner) call(first, request_name(NAME, ALLOW_REPLACEMENT));
     if (mode->turn == change_rule) call(first, bus_call(BUS_NAME, "RemoveMatch", rule_of(rule, MATCHED)));
     for (int i = 0; i < betweens; i++) connect_between(i, poll);
     connect_player(LAST);
@@ -473,10 +422,6 @@ static uint32_t play_turns(void) {
     }
     await_turns(begun, begun);
     return begun;
-}
-
-static void begin(pthread_t *thread, void *(*run)(void *), void *given) {
-    if (pthread_create(thread, NULL, run, given)) fail("thread");
 }
 
 /* Plays all turns with the noise beside them, and tells how many were begun. */
@@ -511,7 +456,7 @@ static void print_found(uint32_t begun) {
         close_ear(&players[role].ear, begun, &all);
     }
     for (int i = 0; i < betweens; i++) close_ear(&between_ears[i], begun, &all);
-    printf("%u %lu %lu\n", overtaken, all.missing, all.twice);
+    printf("%u overtaken, %lu missing, %lu twice\n", overtaken, all.missing, all.twice);
 }
 
 int main(int words, char **word) {
