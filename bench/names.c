@@ -46,7 +46,8 @@ struct mode {
 struct question {
     uint32_t serial;
     enum kind kind;
-    uint32_t bits; /* of the state that the answer tells */
+    uint32_t bits;      /* of the state that the answer tells */
+    uint32_t announced; /* when it was asked */
 };
 
 struct owner {
@@ -203,12 +204,12 @@ static void reply(struct owner *owner, const unsigned char *call, uint32_t numbe
     put_whole(owner, m);
 }
 
-/* A call that reaches a client which hasn't been told that it owns the name is ahead of that, or else of before the loss. */
+/* A call that reaches a client which hasn't been told that it owns the name is ahead of that, unless the client has owned it before:
+   then the call was under way while the name was lost. */
 static void serve_call(struct owner *owner, const unsigned char *call) {
-    bool is_ahead = !owner->is_owner && owner->change <= started, is_stale = !owner->is_owner && !is_ahead;
+    bool is_ahead = !owner->is_owner && owner->change <= started, is_late = !owner->is_owner && !is_ahead;
     ahead += is_ahead;
-    stale += is_stale;
-    reply(owner, call, is_stale ? owner->change - OWNERS : owner->change);
+    reply(owner, call, is_late ? owner->change - OWNERS : owner->change);
 }
 
 static void treat_as_owner(struct owner *owner, const unsigned char *message) {
@@ -250,7 +251,7 @@ static void ask_next(void) {
     const char *name = mode->subject(announced + number / 2 % 2);
     struct message m = call_about(kind, name);
     uint32_t bits = mode->bit_of && kind != LIST ? mode->bit_of(name) : EVERY_BIT;
-    questions[serial % OPEN] = (struct question){serial, kind, bits};
+    questions[serial % OPEN] = (struct question){serial, kind, bits, announced};
     memcpy(m.bytes + 8, &serial, 4);
     put(&observer, m.bytes, m.len);
     open_questions++;
@@ -280,23 +281,29 @@ static void judge(uint32_t bits, uint32_t told) {
     stale++;
 }
 
-static void treat_answer(const unsigned char *message, size_t whole) {
+static const struct question *question_of(const unsigned char *message) {
     uint32_t serial = number_at(field_of(message, REPLY_SERIAL));
-    struct question *question = &questions[serial % OPEN];
+    const struct question *question = &questions[serial % OPEN];
     if (question->serial != serial) stop("an answer to no question");
-    bool is_no_owner = question->kind == GET_OWNER && !strcmp(text_of(message, ERROR_NAME), NO_OWNER);
-    if (message[1] == FAULT && !is_no_owner) stop(text_of(message, ERROR_NAME));
     open_questions--;
     answers++;
+    return question;
+}
+
+static void treat_answer(const unsigned char *message, size_t whole) {
+    const struct question *question = question_of(message);
+    if (message[1] == FAULT && (question->kind != GET_OWNER || strcmp(text_of(message, ERROR_NAME), NO_OWNER)))
+        stop(text_of(message, ERROR_NAME));
     judge(question->bits, bits_told(question, message, whole));
 }
 
-/* Owners reply in an order of their own. A reply may be of an owner of before, but none that wasn't announced yet. */
+/* Owners reply in an order of their own. A reply may be of an owner of before, but of none that wasn't announced yet, nor of one that
+   comes before the owner that was known when the question was asked. */
 static void treat_reply(const unsigned char *message, size_t whole) {
     if (message[1] == FAULT) stop(text_of(message, ERROR_NAME));
-    open_questions--;
-    answers++;
-    ahead += number_at(body_of(message, whole)) > announced;
+    uint32_t number = number_at(body_of(message, whole)), known = question_of(message)->announced;
+    ahead += number > announced;
+    stale += number < known;
 }
 
 static uint32_t picture_after(const char *name, const char *owner) {
