@@ -5,7 +5,8 @@
 #include <sys/epoll.h>
 #include <sys/prctl.h>
 
-enum { OWNERS = 8, OPEN = 8 };
+/* Owners reply in an order of their own, so a question is remembered for as many more as there are places. */
+enum { OWNERS = 8, OPEN = 8, QUESTIONS = 4096 };
 
 /* Of the clients that come and go: how many are there at a time, the places that they have in turn, and those whose names are
    looked for. */
@@ -65,7 +66,7 @@ static char names[OWNERS][64];
 static struct client observer, listeners[MAX_BETWEEN], passers[PLACES];
 static int listener_count;
 static unsigned last_staying; /* the number in the name of the last client that came to stay */
-static struct question questions[OPEN];
+static struct question questions[QUESTIONS];
 static uint32_t open_questions, question_count;
 static uint32_t picture; /* the state as it was announced to the observer */
 static uint32_t acquired, lost;
@@ -251,7 +252,7 @@ static void ask_next(void) {
     const char *name = mode->subject(announced + number / 2 % 2);
     struct message m = call_about(kind, name);
     uint32_t bits = mode->bit_of && kind != LIST ? mode->bit_of(name) : EVERY_BIT;
-    questions[serial % OPEN] = (struct question){serial, kind, bits, announced};
+    questions[serial % QUESTIONS] = (struct question){serial, kind, bits, announced};
     memcpy(m.bytes + 8, &serial, 4);
     put(&observer, m.bytes, m.len);
     open_questions++;
@@ -283,7 +284,7 @@ static void judge(uint32_t bits, uint32_t told) {
 
 static const struct question *question_of(const unsigned char *message) {
     uint32_t serial = number_at(field_of(message, REPLY_SERIAL));
-    const struct question *question = &questions[serial % OPEN];
+    const struct question *question = &questions[serial % QUESTIONS];
     if (question->serial != serial) stop("an answer to no question");
     open_questions--;
     answers++;
