@@ -10,9 +10,10 @@ use Rattle.router.specs.Passes.{PassState}
 use Rattle.router.specs.Reply.{Reply}
 use Rattle.peers.specs.declared.error.AnswerError.{AnswerError}
 use Rattle.peers.specs.declared.leaving.Leaving.{Leaving}
-use Rattle.peers.specs.declared.leaving.Leaving.TheVariants.{Done, Ended, Refused}
+use Rattle.peers.specs.declared.leaving.Leaving.TheVariants.{Done}
 use Rattle.peers.specs.Announcements.{IsSignalled, change_asked}
-use Rattle.peers.specs.Departure.{IsClosing, Closes, ClosesPass, AnswersAfter, HasLeft}
+use Rattle.peers.specs.Calling.{AnswersCallers}
+use Rattle.peers.specs.Departure.{IsClosing, ClosesPass, HasLeft}
 use Rattle.peers.specs.Passing.{with_pass}
 use Rattle.peers.specs.PeerState.{PeerState, name_of}
 use Rattle.peers.proofs.Calling.{callers_close_none}
@@ -43,10 +44,5 @@ module _ {M : Type 0} where
   closes outbox_of v w (Err error) pass leaving once (is, same) = let P : Leaving → Type 0 = λ l. HasLeft l w in subst P (sym is) tt
 
   -- and telling those who wait opens none
-  left_after : (outbox_of : M → OutboxId) (v w : PeerState M) (leaving : Leaving) → HasLeft leaving v → AnswersAfter outbox_of leaving v w → HasLeft leaving w
-  left_after outbox_of v w Done closed answers = callers_close_none outbox_of v w answers ∙ closed
-  left_after outbox_of v w Ended closed answers = tt
-  left_after outbox_of v w Refused closed answers = tt
-
-  pub left_by : (outbox_of : M → OutboxId) (v w : PeerState M) (leaving : Leaving) → Closes outbox_of v leaving w → HasLeft leaving w
-  left_by outbox_of v w leaving (mid, (asked, pass, once, is), answers) = left_after outbox_of mid w leaving (closes outbox_of v mid asked pass leaving once is) answers
+  pub left_done : (outbox_of : M → OutboxId) (v mid w : PeerState M) → ClosesPass outbox_of v Done mid → AnswersCallers outbox_of mid w → HasLeft Done w
+  left_done outbox_of v mid w (asked, pass, once, is) answers = callers_close_none outbox_of mid w answers ∙ closes outbox_of v mid asked pass Done once is

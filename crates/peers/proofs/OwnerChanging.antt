@@ -1,5 +1,5 @@
 -- Changes of a name's owner, announced and made.
-use Rattle.std.proofs.Common.{◌≡◌, false, List, Option, Some, None, Result, Ok, Err, inl, inr, refl, sym, ap, subst, ◌∙◌}
+use Rattle.std.proofs.Common.{◌≡◌, false, ℕ, List, [], append-nil, Option, Some, None, Result, Ok, Err, inl, inr, refl, sym, ap, subst, ◌∙◌}
 use Rattle.std.specs.Result.{result_and}
 use Rattle.outbox.specs.Seated.{OutboxId}
 use Rattle.owners.specs.declared.answer.Change.{Change}
@@ -17,11 +17,10 @@ use Rattle.router.specs.Reply.{Reply}
 use Rattle.router.specs.Sent.{Sent}
 use Rattle.router.specs.Sent.TheVariants as sent
 use Rattle.router.specs.Unicasts.{Unicasts}
-use Rattle.published.proofs.Fronts.{prefix_self}
 use Rattle.unique_name.specs.UniqueNames.{unique_name}
 use Rattle.peers.specs.declared.error.AnswerError.{AnswerError}
 use Rattle.peers.specs.declared.request.Request.{Request}
-use Rattle.peers.specs.Announcements.{IsTold, IsSignalled, HasTold, HasSignalled, TellsOwner, Announces, told_asked, change_asked}
+use Rattle.peers.specs.Announcements.{IsTold, IsSignalled, HasTold, HasSignalled, TellsOwner, Announces, AnnouncesAny, told_asked, change_asked}
 use Rattle.peers.specs.Holdings.{HoldingsState}
 use Rattle.peers.specs.NameRows.{ChangesName, TellsNamed}
 use Rattle.peers.specs.OwnerChanges.{IsChangeOf, ChangesAhead, ChangesOwner}
@@ -30,26 +29,23 @@ use Rattle.peers.specs.PeerState.{PeerState}
 use Rattle.peers.specs.Rows.{with_holdings}
 
 module _ {M : Type 0} where
-  number : PassState M → ℕ
-  number p = p.connection
-
   -- what the bus puts by a pass leaves it its connection
   unicast_keeps : (outbox_of : M → OutboxId) (to bytes : List ℕ) (v w : PassState M) (s : Sent) → Unicasts outbox_of to bytes v s w → w.connection ≡ v.connection
-  unicast_keeps outbox_of to bytes v w (sent.Put n) (owner, sends, count, put, waits) = ap number sends.same
-  unicast_keeps outbox_of to bytes v w sent.NoOwner (unput, nobody) = ap number unput.sends.same
-  unicast_keeps outbox_of to bytes v w (sent.Full n) (unput, owner, shut, waits) = ap number unput.sends.same
+  unicast_keeps outbox_of to bytes v w (sent.Put n) (owner, sends, count, put, waits) = ap (λ (p : PassState M). p.connection) sends.same
+  unicast_keeps outbox_of to bytes v w sent.NoOwner (unput, nobody) = ap (λ (p : PassState M). p.connection) unput.sends.same
+  unicast_keeps outbox_of to bytes v w (sent.Full n) (unput, owner, shut, waits) = ap (λ (p : PassState M). p.connection) unput.sends.same
 
   told_keeps : (outbox_of : M → OutboxId) (asked : Asked) (to : List ℕ) (v w : PassState M) (result : Result (Unit {0}) AnswerError) → IsTold outbox_of asked to v result w → w.connection ≡ v.connection
   told_keeps outbox_of asked to v w (Ok x) (bytes, s, are, unicast) = unicast_keeps outbox_of to bytes v w s unicast
-  told_keeps outbox_of asked to v w (Err error) (is, inl same) = ap number same
-  told_keeps outbox_of asked to v w (Err error) (is, inr (why, inl (gone, same))) = ap number same
-  told_keeps outbox_of asked to v w (Err error) (is, inr (why, inr (lost, unput))) = ap number unput.sends.same
+  told_keeps outbox_of asked to v w (Err error) (is, inl same) = ap (λ (p : PassState M). p.connection) same
+  told_keeps outbox_of asked to v w (Err error) (is, inr (why, inl (gone, same))) = ap (λ (p : PassState M). p.connection) same
+  told_keeps outbox_of asked to v w (Err error) (is, inr (why, inr (lost, unput))) = ap (λ (p : PassState M). p.connection) unput.sends.same
 
   signalled_keeps : (outbox_of : M → OutboxId) (asked : Asked) (v w : PassState M) (result : Result (Unit {0}) AnswerError) → IsSignalled outbox_of asked v result w → w.connection ≡ v.connection
-  signalled_keeps outbox_of asked v w (Ok x) (bytes, recipients, refused, are, routed) = ap number routed.sends.same
-  signalled_keeps outbox_of asked v w (Err error) (is, inl same) = ap number same
-  signalled_keeps outbox_of asked v w (Err error) (is, inr (why, inl (gone, same))) = ap number same
-  signalled_keeps outbox_of asked v w (Err error) (is, inr (why, inr (lost, unput))) = ap number unput.sends.same
+  signalled_keeps outbox_of asked v w (Ok x) (bytes, recipients, refused, are, routed) = ap (λ (p : PassState M). p.connection) routed.sends.same
+  signalled_keeps outbox_of asked v w (Err error) (is, inl same) = ap (λ (p : PassState M). p.connection) same
+  signalled_keeps outbox_of asked v w (Err error) (is, inr (why, inl (gone, same))) = ap (λ (p : PassState M). p.connection) same
+  signalled_keeps outbox_of asked v w (Err error) (is, inr (why, inr (lost, unput))) = ap (λ (p : PassState M). p.connection) unput.sends.same
 
   owner_keeps : (outbox_of : M → OutboxId) (member name : List ℕ) (owner : Option ℕ) (v w : PeerState M) (result : Result (Unit {0}) AnswerError) → TellsOwner outbox_of member name owner v result w → w.pass.connection ≡ v.pass.connection
   owner_keeps outbox_of member name None v w result (is, same) = ap (λ (p : PeerState M). p.pass.connection) same
@@ -63,7 +59,7 @@ module _ {M : Type 0} where
   -- what was foreseen is what came about
   foreseen_is : (call : NameCall) (change : Option Change) (v w : PassState M) (before next : Publication M) (n m : ℕ) (asked : Result Reply BusError) → m ≡ n → change ≡ change_in (reply_to (after before.history) (command_of n call))
       → Answers false v before (command_of m call) asked w next → IsChangeOf change before (command_of n call) asked
-  foreseen_is call change v w before next n m (Ok reply) is foreseen (done, rest) =
+  foreseen_is call change v w before next n m (Ok reply) is foreseen (done, same, stays) =
       foreseen ∙ (ap (λ k. change_in (reply_to (after before.history) (command_of k call))) (sym is) ∙ ap change_in (sym done.replies))
   foreseen_is call change v w before next n m (Err error) is foreseen answers = inr foreseen
 
@@ -75,7 +71,7 @@ module _ {M : Type 0} where
       → Foresees u.pass before (command_of u.pass.connection call) (Ok (Some change)) seen → ChangesAhead outbox_of call change (with_pass u seen) before asked announced w next → ChangesOwner outbox_of call v before asked announced w next
   made_ahead outbox_of call change u v w seen before next asked announced is foresees (mid, announces, answers, same) =
       let P : PeerState M → Type 0 = λ s. ChangesOwner outbox_of call s before asked announced w next in
-      let kept = announced_keeps outbox_of change (with_pass u seen) mid announced announces ∙ ap number foresees.2 in
+      let kept = announced_keeps outbox_of change (with_pass u seen) mid announced announces ∙ ap (λ (p : PassState M). p.connection) foresees.2 in
       subst P is (
         seen,
         Some change,
@@ -99,7 +95,7 @@ module _ {M : Type 0} where
         with_pass u seen,
         seen_more u.pass seen before (command_of u.pass.connection call) None foresees,
         tt,
-        foreseen_is call None seen w.pass before next u.pass.connection seen.connection asked (ap number foresees.2) foresees.0 answers,
+        foreseen_is call None seen w.pass before next u.pass.connection seen.connection asked (ap (λ (p : PassState M). p.connection) foresees.2) foresees.0 answers,
         (refl, refl),
         answers,
         same,
@@ -110,7 +106,28 @@ module _ {M : Type 0} where
       → Foresees u.pass before (command_of u.pass.connection call) (Err error) w.pass → w ≡ with_pass u w.pass → ChangesOwner outbox_of call v before (Err error) (Ok tt) w before
   made_none outbox_of call u v w error before is (closed, stopped, shut) same =
       let P : PeerState M → Type 0 = λ s. ChangesOwner outbox_of call s before (Err error) (Ok tt) w before in
-      subst P is (u.pass, None, u, (prefix_self u.pass.seen, refl), tt, inl refl, (refl, refl), inr (stopped, inl (closed, shut)), same)
+      subst P is (u.pass, None, u, (([], append-nil u.pass.seen), refl), tt, inl refl, (refl, refl), inr (stopped, inl (closed, shut)), same)
+
+  -- what a peer holds has no part in a change
+  told_holding : (outbox_of : M → OutboxId) (held : HoldingsState) (asked : Asked) (to : List ℕ) (v w : PeerState M) (result : Result (Unit {0}) AnswerError) → HasTold outbox_of asked to v result w → HasTold outbox_of asked to (record v { holdings = held }) result (record w { holdings = held })
+  told_holding outbox_of held asked to v w result (made, told) = (ap (λ (s : PeerState M). record s { holdings = held }) made, told)
+
+  owner_holding : (outbox_of : M → OutboxId) (held : HoldingsState) (member name : List ℕ) (owner : Option ℕ) (v w : PeerState M) (result : Result (Unit {0}) AnswerError) → TellsOwner outbox_of member name owner v result w → TellsOwner outbox_of member name owner (record v { holdings = held }) result (record w { holdings = held })
+  owner_holding outbox_of held member name None v w result (is, same) = (is, ap (λ (s : PeerState M). record s { holdings = held }) same)
+  owner_holding outbox_of held member name (Some n) v w result told = told_holding outbox_of held (told_asked v.serial member name n) (unique_name n) v w result told
+
+  announced_holding : (outbox_of : M → OutboxId) (held : HoldingsState) (change : Change) (v w : PeerState M) (result : Result (Unit {0}) AnswerError) → Announces outbox_of change v result w → Announces outbox_of change (record v { holdings = held }) result (record w { holdings = held })
+  announced_holding outbox_of held change v w result (mid, next, lost, changed, acquired, a, (made, signal), c, is) =
+      (record mid { holdings = held }, record next { holdings = held }, lost, changed, acquired, owner_holding outbox_of held _ change.name change.old v mid lost a, (ap (λ (s : PeerState M). record s { holdings = held }) made, signal), owner_holding outbox_of held _ change.name change.new next w acquired c, is)
+
+  any_holding : (outbox_of : M → OutboxId) (held : HoldingsState) (change : Option Change) (v w : PeerState M) (result : Result (Unit {0}) AnswerError) → AnnouncesAny outbox_of change v result w → AnnouncesAny outbox_of change (record v { holdings = held }) result (record w { holdings = held })
+  any_holding outbox_of held None v w result (is, same) = (is, ap (λ (s : PeerState M). record s { holdings = held }) same)
+  any_holding outbox_of held (Some change) v w result announces = announced_holding outbox_of held change v w result announces
+
+  made_holding : (outbox_of : M → OutboxId) (held : HoldingsState) (call : NameCall) (v w : PeerState M) (before next : Publication M) (asked : Result Reply BusError) (announced : Result (Unit {0}) AnswerError) → ChangesOwner outbox_of call v before asked announced w next
+      → ChangesOwner outbox_of call (record v { holdings = held }) before asked announced (record w { holdings = held }) next
+  made_holding outbox_of held call v w before next asked announced (seen, change, mid, more, here, is, announces, answers, same) =
+      (seen, change, record mid { holdings = held }, more, here, is, any_holding outbox_of held change (with_pass v seen) mid announced announces, answers, ap (λ (s : PeerState M). record s { holdings = held }) same)
 
   -- a row of the table: what the client holds changed by the bus's answer, and the client was told it
   pub changed : (outbox_of : M → OutboxId) (request : Request) (call : NameCall) (change : Result Reply BusError → HoldingsState → HoldingsState) (u v mid w : PeerState M) (before next : Publication M) (asked : Result Reply BusError) (held : HoldingsState) (announced answered result : Result (Unit {0}) AnswerError) → u ≡ v
@@ -119,3 +136,9 @@ module _ {M : Type 0} where
       let P : PeerState M → Type 0 = λ s. Once (λ b n. ChangesOwner outbox_of call s b asked announced mid n) in
       let Q : HoldingsState → Type 0 = λ x. TellsNamed request asked (record mid { holdings = x }) answered w in
       (asked, mid, announced, answered, subst P is (before, next, c), subst Q h t, e)
+
+  -- of a peer whose holdings stood aside meanwhile
+  pub changed_aside : (outbox_of : M → OutboxId) (request : Request) (call : NameCall) (change : Result Reply BusError → HoldingsState → HoldingsState) (u v mid w : PeerState M) (before next : Publication M) (asked : Result Reply BusError) (held : HoldingsState) (announced answered result : Result (Unit {0}) AnswerError) → record u { holdings = v.holdings } ≡ v
+      → ChangesOwner outbox_of call u before asked announced mid next → held ≡ change asked v.holdings → TellsNamed request asked (record mid { holdings = held }) answered w → result ≡ result_and announced answered → ChangesName outbox_of request call change v result w
+  changed_aside outbox_of request call change u v mid w before next asked held announced answered result is c h t e =
+      changed outbox_of request call change (record u { holdings = v.holdings }) v (record mid { holdings = v.holdings }) w before next asked held announced answered result is (made_holding outbox_of v.holdings call u mid before next asked announced c) h t e

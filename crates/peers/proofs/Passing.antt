@@ -6,7 +6,6 @@ use Rattle.router.specs.BusError.{BusError}
 use Rattle.router.specs.Source.TheVariants.{Own}
 use Rattle.router.specs.Passes.{PassState}
 use Rattle.router.specs.Sent.{Sent}
-use Rattle.router.specs.Sent.TheVariants as sent
 use Rattle.router.specs.Unicasts.{Unicasts, IsUnsent}
 use Rattle.unique_name.specs.UniqueNames.{unique_name}
 use Rattle.peers.specs.declared.error.AnswerError.{AnswerError}
@@ -32,17 +31,3 @@ module _ {M : Type 0} where
       (same ∙ ap (λ (s : PeerState M). with_pass s w.pass) is, inr (u.pass, stamped, recipients, refused, seen, st, routed))
   broadcast_done outbox_of bytes stamped v u w (Err error) recipients refused is seen st err routed same =
       (err, same ∙ ap (λ (s : PeerState M). with_pass s w.pass) is, u.pass, seen, inr routed)
-
-  -- of a peer that is seen as another record of the same
-  pub sent_at_once : (outbox_of : M → OutboxId) (bytes to stamped : List ℕ) (u v w : PeerState M) (asked : Result Sent BusError) (result : Result (Unit {0}) AnswerError)
-      → MatchResult asked (λ sent. Unicasts outbox_of to stamped v.pass sent u.pass) (λ error. IsUnsent outbox_of error v.pass u.pass) → u ≡ with_pass v u.pass → Concludes bytes asked u result w → SendsAtOnce outbox_of bytes to stamped v result w
-  sent_at_once outbox_of bytes to stamped u v w asked result sent same concluded =
-      let C : PeerState M → Type 0 = λ s. Concludes bytes asked s result w in
-      (u.pass, asked, sent, subst C same concluded)
-
-  -- after nobody was found to own the name
-  pub sent_at_last : (outbox_of : M → OutboxId) (bytes to stamped : List ℕ) (u v w : PeerState M) (result : Result (Unit {0}) AnswerError) → Unicasts outbox_of to stamped v.pass sent.NoOwner u.pass → u ≡ with_pass v u.pass
-      → SendsAtOnce outbox_of bytes to stamped u result w → SendsStamped outbox_of bytes to stamped v result w
-  sent_at_last outbox_of bytes to stamped u v w result (unput, nobody) same sends =
-      let S : PeerState M → Type 0 = λ s. SendsAtOnce outbox_of bytes to stamped s result w in
-      inr (u.pass, unput, subst S same sends)

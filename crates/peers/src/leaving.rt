@@ -97,11 +97,13 @@ impl<B: Naming, M: Mailbox> Peer<B, M> {
         ensures leaves { Closes M.outbox_of self.old result self.new }
         ensures closed { HasLeft result self.new }
     {
-        let leaving = self.close_pass(context, lists);
-        if leaving == Leaving::Done {
-            self.end_calls(context);
+        match self.close_pass(context, lists) {
+            Leaving::Done => {
+                self.end_calls(context);
+                Leaving::Done
+            }
+            kept => kept,
         }
-        leaving
     }
 
     // Takes the connection off the bus, and announces that before anybody is answered that it is gone.

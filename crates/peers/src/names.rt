@@ -7,12 +7,14 @@ ghost use Rattle.peers.specs.OwnerChanges.{ChangesOwner, ChangesAhead};
 
 use crate::context::Context;
 use crate::error::AnswerError;
+use crate::holdings::Holdings;
 use crate::peer::Peer;
 use crate::refused::Refused;
 use crate::request::Request;
 use bus_messages::{Body, ErrorName};
 use owners::{Change, WellKnown};
 use router::{BusError, Control, Mailbox, NameCall, Naming, Reply, RouteLists};
+use std::mem;
 use std::sync::Wait;
 
 impl<B: Naming, M: Mailbox> Peer<B, M> {
@@ -35,8 +37,11 @@ impl<B: Naming, M: Mailbox> Peer<B, M> {
         }
         let mut control = context.bus.control(context.rt);
         let call = NameCall::Request(name.copy(), flags);
+        // What the client holds stands aside meanwhile, with the room that was made for the name.
+        let mut holdings = mem::replace(&mut self.holdings, Holdings::new(context.alloc));
         let (asked, announced) = self.change_owner(context, lists, &mut control, &call);
-        self.holdings.note_request(&name, &asked);
+        holdings.note_request(&name, &asked);
+        self.holdings = holdings;
         let answered = self.answer_named(context, request, asked);
         announced.and(answered)
     }

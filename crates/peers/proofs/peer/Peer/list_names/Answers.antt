@@ -16,6 +16,6 @@ returns-in-Ok-clause-row g c =
     answers_found AreAllNames c.args.request (Ok ((bus_name ∷ map unique_name numbers) ++ owned)) c.args.self.now c.all_names.new.self c.answer_names.new.self c.answer_names.result c.all_names.ensures.same c.all_names.ensures.later
     (all_told s numbers owned (c.as_slice.ensures.value ∙ c.in-Ok.ensures.found.0) (subst A (sym c.as_slice-in-Ok.ensures.value) c.in-Ok.ensures.found.1)) c.answer_names.ensures.row
 
-pub returns-in-Err-clause-row : goal.returns-in-Err-clause-row
-returns-in-Err-clause-row g c =
+pub returns-clause-row : goal.returns-clause-row
+returns-clause-row g c =
     answers_found AreAllNames c.args.request (Err c.in-Err.why) c.args.self.now c.all_names.new.self c.refuse.new.self c.refuse.result c.all_names.ensures.same c.all_names.ensures.later c.in-Err.ensures.found c.refuse.ensures.answer
