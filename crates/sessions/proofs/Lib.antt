@@ -1,3 +1,4 @@
 pub mod Runs
 pub mod Stepping
 pub mod Endings
+mod Arriving

@@ -1,5 +1,5 @@
 -- A client that has just joined the bus (own).
-use Rattle.std.specs.Prelude.{◌≡◌, ℕ, List, Result, Ok}
+use Rattle.std.specs.Prelude.{◌≡◌, ℕ, true, List, Result, Ok}
 use Rattle.message_view.specs.Message.{Message}
 use Rattle.message_view.specs.Valid.{Valid}
 use Rattle.outbox.specs.Seated.{OutboxId}
@@ -13,6 +13,7 @@ use Rattle.peers.specs.Passing.{IsRequestOf}
 use Rattle.peers.specs.PeerState.{PeerState}
 use Rattle.peers.specs.declared.error.AnswerError.{AnswerError}
 use Rattle.peers.specs.declared.request.Request.{Request}
+use Rattle.sessions.specs.Hello.{is_hello}
 
 module _ {M : Type 0} where
   -- a pass that was connected, with a mailbox of this outbox, and did nothing else
@@ -23,7 +24,7 @@ module _ {M : Type 0} where
   abbrev pub IsNewcomer : (M → OutboxId) → PeerState M → Type 0
   IsNewcomer outbox_of v = HasJoined outbox_of v.own.outbox v.pass × (v.serial ≡ 1) × (v.holdings ≡ nothing_held)
 
-  -- A newcomer with this outbox, whose call of these bytes was answered and whose name was announced.
+  -- a newcomer with this outbox, whose Hello of these bytes was answered, and whose name was announced
   abbrev pub IsWelcome : (M → OutboxId) → List ℕ → OutboxId → Result (Unit {0}) AnswerError → PeerState M → Type 0
   IsWelcome outbox_of bytes outbox registered w =
-      (v : PeerState M) × (request : Request) × IsNewcomer outbox_of v × (v.own.outbox ≡ outbox) × ((m : Message) → Valid bytes m → IsRequestOf m request) × Registers outbox_of request v registered w
+      (v : PeerState M) × (request : Request) × IsNewcomer outbox_of v × (v.own.outbox ≡ outbox) × ((m : Message) → Valid bytes m → (is_hello m ≡ true) × IsRequestOf m request) × Registers outbox_of request v registered w

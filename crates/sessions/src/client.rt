@@ -153,7 +153,19 @@ impl<B: Naming, M: Mailbox> Client<B, M> {
         }
     }
 
+    // Counts the instructions of a peer's programs among those of all clients.
+    fn count_in(&mut self, mut peer: Peer<B, M>) -> Peer<B, M>
+        ensures peer { result ≡ peer }
+        ensures same { self.new ≡ self.old }
+    {
+        if let Some(all) = self.all.take() {
+            peer.share_instructions(all);
+        }
+        peer
+    }
+
     // Makes the peer that the first message asks for, and answers it.
+    #[tactic(auto, using(crate::proofs::Arriving::taken))]
     fn arrive<W: Wait, R: Wait + Drop>(
         &mut self,
         context: &Context<'_, B, M, W, R>,
@@ -169,11 +181,8 @@ impl<B: Naming, M: Mailbox> Client<B, M> {
             return Err(SessionError::NoHello);
         };
         match greet(context, lists, &mut self.reader, own, self.identity, view) {
-            Ok((mut peer, registered)) => {
-                if let Some(all) = self.all.take() {
-                    peer.share_instructions(all);
-                }
-                self.peer = Some(peer);
+            Ok((peer, registered)) => {
+                self.peer = Some(self.count_in(peer));
                 outcome_of(registered)
             }
             Err((error, own)) => {

@@ -33,7 +33,6 @@ pub(crate) fn greet<B: Naming, M: Mailbox, W: Wait, R: Wait + Drop>(
     identity: Identity,
     view: &View<'_>,
 ) -> Result<(Peer<B, M>, Result<(), AnswerError>), (SessionError, OwnOutbox<M>)>
-    ensures hello { IfOk result (λ _. (m : Message) → Valid view.now m → is_hello m ≡ true) }
     ensures peer { IfOk result (λ made. IsWelcome M.outbox_of view.now own.outbox made.1 made.0) }
     ensures slow { IfOk result (λ made. SlowIfShut made.1 made.0) }
     ensures outbox { IfErr result (λ refused. refused.1.outbox ≡ own.outbox) }
@@ -56,7 +55,8 @@ fn let_in<B: Naming, M: Mailbox, W: Wait, R: Wait + Drop>(
     identity: Identity,
     view: &View<'_>,
 ) -> Result<(Peer<B, M>, Result<(), AnswerError>), (SessionError, OwnOutbox<M>)>
-    requires { pass ≡ new_pass pass.seen }
+    requires new { pass ≡ new_pass pass.seen }
+    requires hello { (m : Message) → Valid view.now m → is_hello m ≡ true }
     ensures peer { IfOk result (λ made. IsWelcome M.outbox_of view.now own.outbox made.1 made.0) }
     ensures slow { IfOk result (λ made. SlowIfShut made.1 made.0) }
     ensures outbox { IfErr result (λ refused. refused.1.outbox ≡ own.outbox) }
