@@ -3,6 +3,7 @@
 #include "client.h"
 #include <poll.h>
 #include <pthread.h>
+#include <stdatomic.h>
 #include <time.h>
 
 enum { WINDOW = 32, USUAL = 250, CROWD = 2000, MAX_CLIENTS = CROWD + 8, MAX_TIMES = 1 << 18 };
@@ -258,19 +259,31 @@ static void add_and_remove(void) {
     sent++;
 }
 
-static void request_and_release(void) {
+#define ASKED "com.example.Asked"
+enum { REPLACED_AND_REPLACING = 3 };
+
+static struct message request_name(uint32_t flags) {
     struct message m = begun(CALL, 0, 1), body = {.len = 0};
-    text(&body, "com.example.Asked");
+    text(&body, ASKED);
     pad(&body, 4);
-    word(&body, 0);
+    word(&body, flags);
     field(&m, PATH, "o", BUS_OBJECT);
     field(&m, INTERFACE, "s", BUS_NAME);
     field(&m, MEMBER, "s", "RequestName");
     field(&m, DESTINATION, "s", BUS_NAME);
     field(&m, SIGNATURE, "g", "su");
     add_body(&m, &body);
-    call(&sender, m);
-    call(&sender, bus_call(BUS_NAME, "ReleaseName", "com.example.Asked"));
+    return m;
+}
+
+static void request_and_release(void) {
+    call(&sender, request_name(0));
+    call(&sender, bus_call(BUS_NAME, "ReleaseName", ASKED));
+    sent++;
+}
+
+static void ask_for_owner(void) {
+    call(&sender, bus_call(BUS_NAME, "GetNameOwner", ASKED));
     sent++;
 }
 
@@ -282,6 +295,13 @@ static void come_and_go(void) {
 
 static void rules(void) { among_250(add_and_remove); }
 static void names(void) { among_250(request_and_release); }
+
+static void owner(void) {
+    static struct client owning;
+    join(&owning);
+    call(&owning, request_name(0));
+    among_250(ask_for_owner);
+}
 
 static void comings(void) {
     for (int i = 1; i <= 100; i++) join(&clients[i]);
@@ -339,6 +359,51 @@ static void pairs(void) {
     print((struct spent){cost, took, PAIRS * PAIR_TIMES});
 }
 
+enum { ASKERS = 4, QUESTIONS = 10240 };
+
+struct asker {
+    struct client *client;
+    pthread_barrier_t *start;
+};
+
+static atomic_bool is_all_asked;
+
+static void *ask_often(void *given) {
+    struct asker *asker = given;
+    pthread_barrier_wait(asker->start);
+    for (int i = 0; i < QUESTIONS; i++) call(asker->client, bus_call(BUS_NAME, "GetNameOwner", ASKED));
+    return NULL;
+}
+
+/* Two clients take the name from one another. */
+static void *change_owners(void *given) {
+    struct client *owners = given;
+    for (int i = 1; !is_all_asked; i ^= 1) call(&owners[i], request_name(REPLACED_AND_REPLACING));
+    return NULL;
+}
+
+/* Four clients ask for the owner of a name at once, which changes all the while. */
+static void owners_beside_changes(void) {
+    pthread_barrier_t start;
+    pthread_t threads[ASKERS], changing;
+    struct asker all[ASKERS];
+    if (pthread_barrier_init(&start, NULL, ASKERS + 1)) fail("barrier");
+    for (int i = 0; i < ASKERS + 2; i++) join(&clients[i]);
+    call(&clients[ASKERS], request_name(REPLACED_AND_REPLACING));
+    for (int i = 0; i < ASKERS; i++) {
+        all[i] = (struct asker){&clients[i], &start};
+        if (pthread_create(&threads[i], NULL, ask_often, &all[i])) fail("thread");
+    }
+    if (pthread_create(&changing, NULL, change_owners, &clients[ASKERS])) fail("thread");
+    pthread_barrier_wait(&start);
+    double from = seconds(bus_clock), began = seconds(CLOCK_MONOTONIC);
+    for (int i = 0; i < ASKERS; i++) pthread_join(threads[i], NULL);
+    double cost = seconds(bus_clock) - from, took = seconds(CLOCK_MONOTONIC) - began;
+    is_all_asked = true;
+    pthread_join(changing, NULL);
+    print((struct spent){cost, took, ASKERS * QUESTIONS});
+}
+
 static const struct mode {
     const char *name;
     void (*run)(void);
@@ -346,7 +411,8 @@ static const struct mode {
     {"member", by_member}, {"arg0", by_arg0}, {"arg0namespace", by_arg0namespace}, {"path", by_path},
     {"path_namespace", by_path_namespace}, {"interface", by_interface}, {"sender", by_sender}, {"mixed", by_mixed_keys},
     {"many", of_16000}, {"crowd", of_a_crowd}, {"all", all_of_100}, {"nobody", nobody_listens}, {"burst", bursts}, {"late", latency},
-    {"rules", rules}, {"names", names}, {"comings", comings}, {"pairs", pairs},
+    {"rules", rules}, {"names", names}, {"owner", owner}, {"owners", owners_beside_changes}, {"comings", comings},
+    {"pairs", pairs},
 };
 
 int main(int words, char **word) {
