@@ -4,6 +4,7 @@
 #include <poll.h>
 #include <pthread.h>
 #include <stdatomic.h>
+#include <stdbool.h>
 #include <time.h>
 
 enum { WINDOW = 32, USUAL = 250, CROWD = 2000, MAX_CLIENTS = CROWD + 8, MAX_TIMES = 1 << 18 };
