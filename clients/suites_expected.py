@@ -8,6 +8,7 @@ USERS = "our bus lets in its own user alone"
 CONFIGURED = "the part configures a limit of dbus-daemon, whose configuration our bus doesn't read"
 EAVESDROPPING = "a rule of AddMatch meets broadcasts alone on our bus, which shows monitors alone what is addressed to others"
 DESTINATIONS = "a monitor's rule compares the destination as it is written; dbus-daemon compares all names of the recipient"
+NUMBERS = "the part wants the unique name :1.1 of the second connection of a bus, which ours gives the first"
 
 LEFT_OUT = {"test-sd-activation": f"{SERVICES}, which each part is about"}
 
@@ -50,7 +51,7 @@ EXPECTED = {
         "/uid-permissions/monitor/other": USERS,
     },
     "dbus-appinfo": {"/appinfo/flatpak-doc-export": f"{DESCRIPTORS}, as the portal of documents wants them"},
-    "gdbus-connection": {"/gdbus/connection/signals": "the part wants the unique name :1.1 of a bus's second connection; ours begin there"},
+    "gdbus-connection": {"/gdbus/connection/signals": NUMBERS},
     "gdbus-proxy": {
         "/gdbus/proxy": PROCESSES,
         "/gdbus/proxy/async": PROCESSES,
@@ -66,5 +67,6 @@ EXPECTED = {
 WAITS = {
     "test-dbus-daemon": ["/no-reply/timeout", "/limits/max-replies-per-connection", "/activation/forking",
                          "/system-policy/allow-signals"],
-    "test-monitor": ["/monitor/forbidden-reply", "/monitor/well-known-destination", "/monitor/unique-destination", "/monitor/activation"],
+    "test-monitor": ["/monitor/forbidden-reply", "/monitor/well-known-destination", "/monitor/unique-destination",
+                     "/monitor/activation"],
 }
