@@ -1,0 +1,72 @@
+"""What clients/suites expects to differ from dbus-daemon, by test and part, and why."""
+
+DESCRIPTORS = "our bus passes no file descriptors"
+PROCESSES = "our bus tells no process numbers"
+SERVICES = "our bus starts no services"
+POLICIES = "our bus has no policies"
+USERS = "our bus lets in its own user alone"
+CONFIGURED = "the part configures a limit of dbus-daemon, whose configuration our bus doesn't read"
+EAVESDROPPING = "a rule of AddMatch meets broadcasts alone on our bus, which shows monitors alone what is addressed to others"
+DESTINATIONS = "a monitor's rule compares the destination as it is written; dbus-daemon compares all names of the recipient"
+NUMBERS = "the part wants the unique name :1.1 of the second connection of a bus, which ours gives the first"
+
+LEFT_OUT = {"test-sd-activation": f"{SERVICES}, which each part is about"}
+
+EXPECTED = {
+    "test-dbus-daemon": {
+        "/creds": PROCESSES,
+        "/processid": PROCESSES,
+        "/unix-runtime-is-default": "as_dbus_daemon listens in a folder of its own, not where the part looks for the bus",
+        "/no-reply/disconnect": "the part compares the text of an error; ours begins with the error's name",
+        "/no-reply/timeout": CONFIGURED,
+        "/canonical-path/uae": "our bus has no environment of services, and answers UpdateActivationEnvironment on each path",
+        "/limits/max-completed-connections": CONFIGURED,
+        "/limits/max-connections-per-user": CONFIGURED,
+        "/limits/max-replies-per-connection": CONFIGURED,
+        "/limits/max-match-rules-per-connection": CONFIGURED,
+        "/limits/max-names-per-connection": CONFIGURED,
+        "/properties/features": f"{SERVICES}; the part wants the feature SystemdActivation",
+        "/properties/get-all": f"{SERVICES}; the part wants the feature SystemdActivation",
+        "/policy/count-fds": DESCRIPTORS,
+        "/activation/forking": SERVICES,
+        "/system-policy/allow-signals": POLICIES,
+        "/system-policy/send-destination/prefix": POLICIES,
+    },
+    "test-dbus-daemon-eavesdrop": {
+        "/eavedrop/match_keyword/unicast_to_receiver": EAVESDROPPING,
+        "/eavedrop/match_keyword/unicast_to_sender": EAVESDROPPING,
+    },
+    "test-monitor": {
+        "/monitor/well-known-destination": DESTINATIONS,
+        "/monitor/unique-destination": DESTINATIONS,
+        "/monitor/forbidden-broadcast": POLICIES,
+        "/monitor/forbidden": POLICIES,
+        "/monitor/forbidden-method": POLICIES,
+        "/monitor/forbidden-reply": POLICIES,
+        "/monitor/activation": SERVICES,
+    },
+    "test-uid-permissions": {
+        "/uid-permissions/uae/other": USERS,
+        "/uid-permissions/monitor/root": USERS,
+        "/uid-permissions/monitor/other": USERS,
+    },
+    "dbus-appinfo": {"/appinfo/flatpak-doc-export": f"{DESCRIPTORS}, as the portal of documents wants them"},
+    "gdbus-connection": {"/gdbus/connection/signals": NUMBERS},
+    "gdbus-proxy": {
+        "/gdbus/proxy": PROCESSES,
+        "/gdbus/proxy/async": PROCESSES,
+        "/gdbus/proxy/no-match-rule": PROCESSES,
+    },
+    "gapplication": {"/gapplication/dbus/command-line": "a timer of the part fails it at times, on dbus-daemon too"},
+    "gdbus-names": {"/gdbus/bus-watch-name-auto-start-service-exist": SERVICES},
+    "test-client.py": {"TestDBusBindings.test_invalid_fd_index": DESCRIPTORS},
+    "test-p2p.py": {"TestDBusBindings.testUnixFd": DESCRIPTORS},
+}
+
+# Parts that wait on our bus for what never comes, until they are stopped: they are played on dbus-daemon alone.
+WAITS = {
+    "test-dbus-daemon": ["/no-reply/timeout", "/limits/max-replies-per-connection", "/activation/forking",
+                         "/system-policy/allow-signals"],
+    "test-monitor": ["/monitor/forbidden-reply", "/monitor/well-known-destination", "/monitor/unique-destination",
+                     "/monitor/activation"],
+}
