@@ -205,10 +205,11 @@ static void reply(struct owner *owner, const unsigned char *call, uint32_t numbe
     put_whole(owner, m);
 }
 
-/* A call that reaches a client which hasn't been told that it owns the name is ahead of that, unless the client has owned it before:
-   then the call was under way while the name was lost. */
+/* A call that reaches a client which doesn't own the name was under way while the client lost it, or is ahead of its NameAcquired. It is
+   ahead if the client never had the name, or if the change after the loss had been announced when the call was sent. */
 static void serve_call(struct owner *owner, const unsigned char *call) {
-    bool is_ahead = !owner->is_owner && owner->change <= started, is_late = !owner->is_owner && !is_ahead;
+    uint32_t sent_after = questions[number_at(call + 8) % QUESTIONS].announced, lost_at = owner->change - OWNERS + 1;
+    bool is_ahead = !owner->is_owner && (owner->change < OWNERS || sent_after > lost_at), is_late = !owner->is_owner && !is_ahead;
     ahead += is_ahead;
     reply(owner, call, is_late ? owner->change - OWNERS : owner->change);
 }
