@@ -5,7 +5,7 @@ ghost use Rattle.std.specs.Prelude.{◌≡◌};
 use crate::KEY;
 use crate::connected::Connected;
 use crate::lists::Player;
-use router::{Bus, Letterbox, Naming, Opened};
+use router::{Bus, BusBrand, Opened, PlainMailbox};
 use std::alloc::{AllocError, Global};
 use std::marker::Brand;
 use std::sync::Wait;
@@ -29,20 +29,20 @@ fn play_on_new_bus<R: Wait>(
     alloc: Global,
     events: &[TextEvent<'_>],
 ) -> Result<Vec<String>, AllocError> {
-    let opened = Opened::<Letterbox>::new();
+    let opened = Opened::<PlainMailbox>::new();
     play_on::<Brand, R>(rt, alloc, opened, events)
 }
 
 /// Plays a list on a new bus with this history.
-fn play_on<J: Naming, R: Wait>(
+fn play_on<B: BusBrand, R: Wait>(
     rt: &R,
     alloc: Global,
-    opened: Opened<Letterbox>,
+    opened: Opened<PlainMailbox>,
     events: &[TextEvent<'_>],
 ) -> Result<Vec<String>, AllocError>
-    requires { opened ≡ J.book }
+    requires { opened ≡ B.book }
 {
-    match Bus::<J, Letterbox, &R>::new(rt, alloc, KEY, opened) {
+    match Bus::<B, PlainMailbox, &R>::new(rt, alloc, KEY, opened) {
         Ok(bus) => {
             let mut connected = Connected::new(rt, alloc, bus);
             play_all(alloc, &mut connected, events)
@@ -51,9 +51,9 @@ fn play_on<J: Naming, R: Wait>(
     }
 }
 
-fn play_all<J: Naming, R: Wait>(
+fn play_all<B: BusBrand, R: Wait>(
     alloc: Global,
-    connected: &mut Connected<'_, J, R>,
+    connected: &mut Connected<'_, B, R>,
     events: &[TextEvent<'_>],
 ) -> Result<Vec<String>, AllocError> {
     let mut answers = Vec::new(alloc);

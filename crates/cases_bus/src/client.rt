@@ -9,7 +9,7 @@ use crossbeam_utils::rule::Protocol;
 use outbox::Taker;
 use routing::Mailbox;
 use sessions::{
-    Admission, Command, Identity, Letterbox, Naming, Published, Rest, RouteLists, Session,
+    Admission, BusBrand, Command, Identity, PlainMailbox, Published, Rest, RouteLists, Session,
     SessionError, Shares, Shown, Step,
 };
 use std::alloc::{AllocError, Global};
@@ -18,12 +18,12 @@ use std::sync::Wait;
 
 /// A client's session, and what it got.
 #[derive(Drop)]
-pub(crate) struct Client<J: Naming>
+pub(crate) struct Client<B: BusBrand>
 where
-    Published: Protocol<Shown<J, Letterbox>, LinkedList<Command<Letterbox>>>,
+    Published: Protocol<Shown<B, PlainMailbox>, LinkedList<Command<PlainMailbox>>>,
 {
     // None after its end.
-    session: Option<Session<J, Letterbox>>,
+    session: Option<Session<B, PlainMailbox>>,
     taker: Taker,
     received: Received,
     // Whom its last message asked the bus about.
@@ -32,10 +32,10 @@ where
     shares: Shares,
 }
 
-impl<J: Naming> Client<J> {
+impl<B: BusBrand> Client<B> {
     /// A client that has said nothing, on a bus that says this of itself.
-    pub(crate) fn new(alloc: Global, identity: Identity) -> Result<Client<J>, AllocError> {
-        let letterbox = Letterbox::new(alloc)?;
+    pub(crate) fn new(alloc: Global, identity: Identity) -> Result<Client<B>, AllocError> {
+        let letterbox = PlainMailbox::new(alloc)?;
         let taker = Taker::new(letterbox.outbox())?;
         Ok(Client {
             session: Some(Session::admitting(alloc, identity, Admission::any(), letterbox)),
@@ -50,7 +50,7 @@ impl<J: Naming> Client<J> {
     /// Plays a line of this client: what came, where it isn't what the line wants.
     pub(crate) fn act<R: Wait>(
         &mut self,
-        place: &Place<'_, '_, J, R>,
+        place: &Place<'_, '_, B, R>,
         action: Action<'_>,
     ) -> Result<Option<String>, LineError> {
         match action {
@@ -75,12 +75,12 @@ impl<J: Naming> Client<J> {
     /// What it got that no line looked at.
     pub(crate) fn unread<R: Wait>(
         &mut self,
-        place: &Place<'_, '_, J, R>,
+        place: &Place<'_, '_, B, R>,
     ) -> Result<Option<String>, LineError> {
         self.get(place, &Wanted::Nothing)
     }
 
-    fn send<R: Wait>(&mut self, place: &Place<'_, '_, J, R>, bytes: &[u8]) {
+    fn send<R: Wait>(&mut self, place: &Place<'_, '_, B, R>, bytes: &[u8]) {
         if let Some(session) = &mut self.session {
             for piece in bytes.chunks(self.at_once.max(1)) {
                 treat(place, session, self.shares, &mut self.subject, piece);
@@ -88,7 +88,7 @@ impl<J: Naming> Client<J> {
         }
     }
 
-    fn forget<R: Wait>(&mut self, place: &Place<'_, '_, J, R>) -> Result<(), LineError> {
+    fn forget<R: Wait>(&mut self, place: &Place<'_, '_, B, R>) -> Result<(), LineError> {
         take_all(place.rt, &mut self.taker, &mut self.received)?;
         self.received.clear();
         Ok(())
@@ -96,7 +96,7 @@ impl<J: Naming> Client<J> {
 
     fn get<R: Wait>(
         &mut self,
-        place: &Place<'_, '_, J, R>,
+        place: &Place<'_, '_, B, R>,
         wanted: &Wanted<'_>,
     ) -> Result<Option<String>, LineError> {
         take_all(place.rt, &mut self.taker, &mut self.received)?;
@@ -105,7 +105,7 @@ impl<J: Naming> Client<J> {
 
     fn end<R: Wait>(
         &mut self,
-        place: &Place<'_, '_, J, R>,
+        place: &Place<'_, '_, B, R>,
         wanted: &str,
     ) -> Result<Option<String>, LineError> {
         match self.session.take() {
@@ -122,9 +122,9 @@ impl<J: Naming> Client<J> {
 
 /// Feeds a session, and lets it treat all that is there whole, each message after a look at whom it asks about. Why it
 /// ends is told at its end.
-fn treat<J: Naming, R: Wait>(
-    place: &Place<'_, '_, J, R>,
-    session: &mut Session<J, Letterbox>,
+fn treat<B: BusBrand, R: Wait>(
+    place: &Place<'_, '_, B, R>,
+    session: &mut Session<B, PlainMailbox>,
     shares: Shares,
     subject: &mut Option<u64>,
     piece: &[u8],

@@ -6,7 +6,7 @@ use crate::place::{GUID, Place};
 use crate::served::Served;
 use case_files::LineError;
 use crossbeam_utils::rule::Protocol;
-use sessions::{Command, Identity, Letterbox, Naming, Published, Shown};
+use sessions::{BusBrand, Command, Identity, PlainMailbox, Published, Shown};
 use std::alloc::Global;
 use std::collections::LinkedList;
 use std::sync::Wait;
@@ -14,17 +14,17 @@ use std::sync::Wait;
 /// The clients of a case, in the order of their first lines, and the served one; and what the bus says of itself to those
 /// that come.
 #[derive(Drop)]
-pub(crate) struct Clients<J: Naming>
+pub(crate) struct Clients<B: BusBrand>
 where
-    Published: Protocol<Shown<J, Letterbox>, LinkedList<Command<Letterbox>>>,
+    Published: Protocol<Shown<B, PlainMailbox>, LinkedList<Command<PlainMailbox>>>,
 {
-    clients: Vec<Client<J>>,
+    clients: Vec<Client<B>>,
     served: Served,
     identity: Identity,
 }
 
-impl<J: Naming> Clients<J> {
-    pub(crate) fn new(alloc: Global) -> Clients<J> {
+impl<B: BusBrand> Clients<B> {
+    pub(crate) fn new(alloc: Global) -> Clients<B> {
         Clients {
             clients: Vec::new(alloc),
             served: Served::new(alloc),
@@ -39,7 +39,7 @@ impl<J: Naming> Clients<J> {
     /// Plays a line: what came, where it isn't what the line wants.
     pub(crate) fn play<R: Wait>(
         &mut self,
-        place: &Place<'_, '_, J, R>,
+        place: &Place<'_, '_, B, R>,
         words: &str,
     ) -> Result<Option<String>, LineError> {
         let Ok(line) = ClientLine::read(place.alloc, words) else {
@@ -55,7 +55,7 @@ impl<J: Naming> Clients<J> {
     /// Sets what the bus says of itself to the clients that come from here on, and how much there may be on it.
     fn describe<R: Wait>(
         &mut self,
-        place: &Place<'_, '_, J, R>,
+        place: &Place<'_, '_, B, R>,
         action: Action<'_>,
     ) -> Result<Option<String>, LineError> {
         match action {
@@ -73,7 +73,7 @@ impl<J: Naming> Clients<J> {
 
     fn act<R: Wait>(
         &mut self,
-        place: &Place<'_, '_, J, R>,
+        place: &Place<'_, '_, B, R>,
         number: usize,
         action: Action<'_>,
     ) -> Result<Option<String>, LineError> {
@@ -90,7 +90,7 @@ impl<J: Naming> Clients<J> {
     /// What clients got that no line looked at.
     pub(crate) fn unread<R: Wait>(
         &mut self,
-        place: &Place<'_, '_, J, R>,
+        place: &Place<'_, '_, B, R>,
     ) -> Result<Option<String>, LineError> {
         for client in self.clients.iter_mut() {
             if let Some(came) = client.unread(place)? {

@@ -3,10 +3,10 @@
 use crate::answers::text_of_reply;
 use crate::jobs::Jobs;
 use crate::pass_calls::call;
-use crate::stop::Stop;
+use crate::unanswered::Unanswered;
 use arrayvec::ArrayVec;
 use message_view::View;
-use router::{Bus, Letterbox, Naming, Pass, Reply, Source};
+use router::{Bus, BusBrand, Pass, PlainMailbox, Reply, Source};
 use std::alloc::{AllocError, Global};
 use std::collections::BTreeMap;
 use std::sync::Wait;
@@ -17,26 +17,26 @@ type Recipients = ArrayVec<u64, 4096>;
 
 /// A bus, a pass for each of its connections, and the jobs that were begun.
 #[derive(Drop)]
-pub(crate) struct Connected<'a, J: Naming, R: Wait> {
+pub(crate) struct Connected<'a, B: BusBrand, R: Wait> {
     rt: &'a R,
     alloc: Global,
-    bus: Bus<J, Letterbox, &'a R>,
+    bus: Bus<B, PlainMailbox, &'a R>,
     // The open ones, by the connection's number.
-    passes: BTreeMap<u64, Pass<J, Letterbox>>,
+    passes: BTreeMap<u64, Pass<B, PlainMailbox>>,
     // The pass that was closed last.
-    closed: Option<Pass<J, Letterbox>>,
+    closed: Option<Pass<B, PlainMailbox>>,
     // The last connection's number, 0 before the first.
     last: u64,
     jobs: Jobs,
 }
 
-impl<'a, J: Naming, R: Wait> Connected<'a, J, R> {
+impl<'a, B: BusBrand, R: Wait> Connected<'a, B, R> {
     /// A bus to which nobody is connected.
     pub(crate) fn new(
         rt: &'a R,
         alloc: Global,
-        bus: Bus<J, Letterbox, &'a R>,
-    ) -> Connected<'a, J, R> {
+        bus: Bus<B, PlainMailbox, &'a R>,
+    ) -> Connected<'a, B, R> {
         Connected {
             rt,
             alloc,
@@ -63,7 +63,7 @@ impl<'a, J: Naming, R: Wait> Connected<'a, J, R> {
     }
 
     /// The reply to an event that is a command.
-    fn reply(&mut self, event: &TextEvent<'_>) -> Result<Reply, Stop> {
+    fn reply(&mut self, event: &TextEvent<'_>) -> Result<Reply, Unanswered> {
         match event {
             TextEvent::Add { connection, .. }
             | TextEvent::Remove { connection, .. }
@@ -77,7 +77,7 @@ impl<'a, J: Naming, R: Wait> Connected<'a, J, R> {
         }
     }
 
-    fn command(&mut self, connection: u64, event: &TextEvent<'_>) -> Result<Reply, Stop> {
+    fn command(&mut self, connection: u64, event: &TextEvent<'_>) -> Result<Reply, Unanswered> {
         match self.passes.get_mut(&connection) {
             Some(pass) => call(self.rt, self.alloc, &self.bus, pass, event),
             None => self.command_of_closed(connection, event),
@@ -86,27 +86,31 @@ impl<'a, J: Naming, R: Wait> Connected<'a, J, R> {
 
     /// Commands of a connection that is closed are those of the pass that was closed last, since its own was given
     /// back.
-    fn command_of_closed(&mut self, connection: u64, event: &TextEvent<'_>) -> Result<Reply, Stop> {
+    fn command_of_closed(
+        &mut self,
+        connection: u64,
+        event: &TextEvent<'_>,
+    ) -> Result<Reply, Unanswered> {
         if connection == 0 || connection > self.last {
-            return Err(Stop::closed_stop());
+            return Err(Unanswered::closed());
         }
         match &mut self.closed {
             Some(pass) => call(self.rt, self.alloc, &self.bus, pass, event),
-            None => Err(Stop::closed_stop()),
+            None => Err(Unanswered::closed()),
         }
     }
 
-    fn connect(&mut self) -> Result<Reply, Stop> {
-        let letterbox = Letterbox::new(self.alloc)?;
+    fn connect(&mut self) -> Result<Reply, Unanswered> {
+        let letterbox = PlainMailbox::new(self.alloc)?;
         let (pass, reply) = connect(self.rt, &self.bus, letterbox)?;
         self.last = pass.connection();
         match self.passes.insert(self.last, pass) {
             Ok(_) => Ok(reply),
-            Err(_) => Err(Stop::NoMemory),
+            Err(_) => Err(Unanswered::NoMemory),
         }
     }
 
-    fn close(&mut self, connection: u64, event: &TextEvent<'_>) -> Result<Reply, Stop> {
+    fn close(&mut self, connection: u64, event: &TextEvent<'_>) -> Result<Reply, Unanswered> {
         let reply = self.command(connection, event)?;
         if let Some(pass) = self.passes.remove(&connection) {
             self.keep_closed(pass);
@@ -116,7 +120,7 @@ impl<'a, J: Naming, R: Wait> Connected<'a, J, R> {
 
     /// Keeps a pass that was closed, and gives back the one that was closed before it, so that a new connection gets
     /// its reader.
-    fn keep_closed(&mut self, pass: Pass<J, Letterbox>) {
+    fn keep_closed(&mut self, pass: Pass<B, PlainMailbox>) {
         if let Some(before) = self.closed.take() {
             give_back(self.rt, &self.bus, before);
         }
@@ -139,7 +143,7 @@ impl<'a, J: Naming, R: Wait> Connected<'a, J, R> {
                 self.jobs.begin(number, recipients.as_slice())?;
                 TextAnswer::Begun.to_string(self.alloc)
             }
-            Err(stop) => stop.text(self.alloc),
+            Err(unanswered) => unanswered.text(self.alloc),
         }
     }
 
@@ -148,15 +152,15 @@ impl<'a, J: Naming, R: Wait> Connected<'a, J, R> {
         connection: u64,
         source: Source,
         bytes: &[u8],
-    ) -> Result<Recipients, Stop> {
+    ) -> Result<Recipients, Unanswered> {
         match self.passes.get_mut(&connection) {
             Some(pass) => recipients(pass, source, bytes),
-            None => Err(Stop::closed_stop()),
+            None => Err(Unanswered::closed()),
         }
     }
 
     /// Any pass that was connected once can ask who gets a message of the bus.
-    fn recipients_of_bus(&mut self, bytes: &[u8]) -> Result<Recipients, Stop> {
+    fn recipients_of_bus(&mut self, bytes: &[u8]) -> Result<Recipients, Unanswered> {
         let first = match self.passes.first_key_value() {
             Some((connection, _)) => Some(*connection),
             None => None,
@@ -167,10 +171,10 @@ impl<'a, J: Naming, R: Wait> Connected<'a, J, R> {
         }
     }
 
-    fn recipients_by_closed(&mut self, bytes: &[u8]) -> Result<Recipients, Stop> {
+    fn recipients_by_closed(&mut self, bytes: &[u8]) -> Result<Recipients, Unanswered> {
         match &mut self.closed {
             Some(pass) => recipients(pass, Source::Bus, bytes),
-            None => Err(Stop::closed_stop()),
+            None => Err(Unanswered::closed()),
         }
     }
 
@@ -185,34 +189,38 @@ impl<'a, J: Naming, R: Wait> Connected<'a, J, R> {
     }
 }
 
-fn connect<J: Naming, R: Wait>(
+fn connect<B: BusBrand, R: Wait>(
     rt: &R,
-    bus: &Bus<J, Letterbox, &R>,
-    letterbox: Letterbox,
-) -> Result<(Pass<J, Letterbox>, Reply), Stop> {
+    bus: &Bus<B, PlainMailbox, &R>,
+    letterbox: PlainMailbox,
+) -> Result<(Pass<B, PlainMailbox>, Reply), Unanswered> {
     let mut pass = bus.pass(rt)?;
     match bus.connect(rt, &mut pass, letterbox) {
         Ok(reply) => Ok((pass, reply)),
         Err(error) => {
             give_back(rt, bus, pass);
-            Err(Stop::from(error))
+            Err(Unanswered::from(error))
         }
     }
 }
 
 /// Gives back a pass that is over.
-fn give_back<J: Naming, R: Wait>(rt: &R, bus: &Bus<J, Letterbox, &R>, pass: Pass<J, Letterbox>) {
+fn give_back<B: BusBrand, R: Wait>(
+    rt: &R,
+    bus: &Bus<B, PlainMailbox, &R>,
+    pass: Pass<B, PlainMailbox>,
+) {
     if pass.is_closed() || pass.connection() == 0 {
         bus.take_back(rt, pass);
     }
 }
 
 /// Those who get a message, if the bytes are one.
-fn recipients<J: Naming>(
-    pass: &mut Pass<J, Letterbox>,
+fn recipients<B: BusBrand>(
+    pass: &mut Pass<B, PlainMailbox>,
     source: Source,
     bytes: &[u8],
-) -> Result<Recipients, Stop> {
+) -> Result<Recipients, Unanswered> {
     let view = View::read(bytes)?;
     Ok(pass.recipients(source, &view)?)
 }
@@ -226,9 +234,9 @@ fn text_of_job(alloc: Global, numbers: Option<Vec<u64>>) -> Result<String, Alloc
 }
 
 /// What came of a call, as text.
-fn text_of(alloc: Global, came: Result<Reply, Stop>) -> Result<String, AllocError> {
+fn text_of(alloc: Global, came: Result<Reply, Unanswered>) -> Result<String, AllocError> {
     match came {
         Ok(reply) => text_of_reply(&reply).to_string(alloc),
-        Err(stop) => stop.text(alloc),
+        Err(unanswered) => unanswered.text(alloc),
     }
 }

@@ -28,8 +28,8 @@ mod served;
 mod serving;
 mod session_cases;
 mod shares;
-mod stop;
 mod taker;
+mod unanswered;
 mod world_events;
 mod worlds;
 

@@ -1,22 +1,22 @@
 // The calls of the bus that the events of a connection are.
 
 use crate::names::name_of;
-use crate::stop::Stop;
+use crate::unanswered::Unanswered;
 use bpf_code::decode;
-use router::{Bus, Letterbox, Naming, Pass, Reply};
+use router::{Bus, BusBrand, Pass, PlainMailbox, Reply};
 use std::alloc::Global;
 use std::sync::Wait;
 use summary::Edition;
 use world_text::TextEvent;
 
 /// Calls the bus as an event of the pass's connection says.
-pub(crate) fn call<J: Naming, R: Wait>(
+pub(crate) fn call<B: BusBrand, R: Wait>(
     rt: &R,
     alloc: Global,
-    bus: &Bus<J, Letterbox, &R>,
-    pass: &mut Pass<J, Letterbox>,
+    bus: &Bus<B, PlainMailbox, &R>,
+    pass: &mut Pass<B, PlainMailbox>,
     event: &TextEvent<'_>,
-) -> Result<Reply, Stop> {
+) -> Result<Reply, Unanswered> {
     match event {
         TextEvent::Add { rule, .. } => Ok(bus.add_match(rt, alloc, pass, rule)?),
         TextEvent::Remove { rule, .. } => Ok(bus.remove_match(rt, alloc, pass, rule)?),
@@ -34,38 +34,38 @@ pub(crate) fn call<J: Naming, R: Wait>(
 }
 
 /// Attaches the program of some bytes, eight an instruction.
-fn attach<J: Naming, R: Wait>(
+fn attach<B: BusBrand, R: Wait>(
     rt: &R,
     alloc: Global,
-    bus: &Bus<J, Letterbox, &R>,
-    pass: &mut Pass<J, Letterbox>,
+    bus: &Bus<B, PlainMailbox, &R>,
+    pass: &mut Pass<B, PlainMailbox>,
     edition: Edition,
     bytes: &[u8],
-) -> Result<Reply, Stop> {
+) -> Result<Reply, Unanswered> {
     match decode(alloc, bytes) {
         Ok(program) => Ok(bus.attach(rt, alloc, pass, edition, program)?),
         // Lists have whole instructions, so that memory alone can be refused here.
-        Err(_) => Err(Stop::NoMemory),
+        Err(_) => Err(Unanswered::NoMemory),
     }
 }
 
-fn request<J: Naming, R: Wait>(
+fn request<B: BusBrand, R: Wait>(
     rt: &R,
-    bus: &Bus<J, Letterbox, &R>,
-    pass: &mut Pass<J, Letterbox>,
+    bus: &Bus<B, PlainMailbox, &R>,
+    pass: &mut Pass<B, PlainMailbox>,
     name: &str,
     flags: u32,
-) -> Result<Reply, Stop> {
+) -> Result<Reply, Unanswered> {
     let name = name_of(name)?;
     Ok(bus.request_name(rt, pass, &name, flags)?)
 }
 
-fn release<J: Naming, R: Wait>(
+fn release<B: BusBrand, R: Wait>(
     rt: &R,
-    bus: &Bus<J, Letterbox, &R>,
-    pass: &mut Pass<J, Letterbox>,
+    bus: &Bus<B, PlainMailbox, &R>,
+    pass: &mut Pass<B, PlainMailbox>,
     name: &str,
-) -> Result<Reply, Stop> {
+) -> Result<Reply, Unanswered> {
     let name = name_of(name)?;
     Ok(bus.release_name(rt, pass, &name)?)
 }

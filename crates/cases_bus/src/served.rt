@@ -7,7 +7,7 @@ use crate::place::{GUID, Place};
 use crate::received::{Received, Wanted};
 use crate::serving::Serving;
 use case_files::LineError;
-use sessions::{Naming, SessionError, serve_one};
+use sessions::{BusBrand, SessionError, serve_one};
 use std::alloc::Global;
 use std::sync::Wait;
 
@@ -30,9 +30,9 @@ impl Served {
     }
 
     /// Plays a line of this client: what came, where it isn't what the line wants.
-    pub(crate) fn act<J: Naming, R: Wait>(
+    pub(crate) fn act<B: BusBrand, R: Wait>(
         &mut self,
-        place: &Place<'_, '_, J, R>,
+        place: &Place<'_, '_, B, R>,
         action: Action<'_>,
     ) -> Result<Option<String>, LineError> {
         match action {
@@ -60,7 +60,7 @@ impl Served {
         self.received.miss(alloc, &Wanted::Nothing)
     }
 
-    fn serve<J: Naming, R: Wait>(&mut self, place: &Place<'_, '_, J, R>, serving: Serving) {
+    fn serve<B: BusBrand, R: Wait>(&mut self, place: &Place<'_, '_, B, R>, serving: Serving) {
         let reader = Input::new(self.script.as_slice(), serving);
         let writer = Output::new(&mut self.received, serving);
         let (outcome, rest) = serve_one(place.rt, place.alloc, place.bus, GUID, reader, writer);

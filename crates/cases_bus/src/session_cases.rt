@@ -8,7 +8,7 @@ use crate::clients::Clients;
 use crate::judging::{Miss, Play};
 use crate::place::Place;
 use case_files::LineError;
-use sessions::{Bus, Letterbox, Naming, Opened};
+use sessions::{Bus, BusBrand, Opened, PlainMailbox};
 use std::alloc::Global;
 use std::marker::Brand;
 use std::sync::Wait;
@@ -27,19 +27,19 @@ impl<R: Wait> Play for OnNewBus<'_, R> {
 }
 
 fn on_new_bus<R: Wait>(rt: &R, alloc: Global, case: &Case<'_>) -> Result<Vec<Miss>, LineError> {
-    let opened = Opened::<Letterbox>::new();
+    let opened = Opened::<PlainMailbox>::new();
     play::<Brand, R>(rt, alloc, opened, case)
 }
 
-fn play<J: Naming, R: Wait>(
+fn play<B: BusBrand, R: Wait>(
     rt: &R,
     alloc: Global,
-    opened: Opened<Letterbox>,
+    opened: Opened<PlainMailbox>,
     case: &Case<'_>,
 ) -> Result<Vec<Miss>, LineError>
-    requires { opened ≡ J.book }
+    requires { opened ≡ B.book }
 {
-    let Ok(bus) = Bus::<J, Letterbox, &R>::new(rt, alloc, KEY, opened) else {
+    let Ok(bus) = Bus::<B, PlainMailbox, &R>::new(rt, alloc, KEY, opened) else {
         return Err(LineError::NoMemory);
     };
     let place = Place {
@@ -50,8 +50,8 @@ fn play<J: Naming, R: Wait>(
     play_lines(&place, case.lines.as_slice())
 }
 
-fn play_lines<J: Naming, R: Wait>(
-    place: &Place<'_, '_, J, R>,
+fn play_lines<B: BusBrand, R: Wait>(
+    place: &Place<'_, '_, B, R>,
     lines: &[CaseLine<'_>],
 ) -> Result<Vec<Miss>, LineError> {
     let mut clients = Clients::new(place.alloc);

@@ -4,7 +4,7 @@ ghost use Rattle.std.specs.Prelude.{◌<◌, IfOk, IfSome};
 ghost use Rattle.rule_compile.specs.Compiled.{IsSlotOf};
 
 use crate::names::name_of;
-use crate::stop::Stop;
+use crate::unanswered::Unanswered;
 use bpf_code::decode;
 use bpf_verify::{Verified, VerifyError, verify};
 use entry_table::{Attachment, RuleProgram};
@@ -37,11 +37,11 @@ impl Places {
     }
 
     /// The world's number of a job. What is no event of the world is no job.
-    fn job(&self, number: u64) -> Result<u64, Stop> {
+    fn job(&self, number: u64) -> Result<u64, Unanswered> {
         let index = usize::try_from(number).unwrap_or(usize::MAX);
         match self.places.get(index) {
             Some(Some(place)) => Ok(*place),
-            _ => Err(Stop::Answered(TextAnswer::Ignored)),
+            _ => Err(Unanswered::Answered(TextAnswer::Ignored)),
         }
     }
 }
@@ -52,7 +52,7 @@ pub(crate) fn event_of(
     world: &World,
     places: &Places,
     event: &TextEvent<'_>,
-) -> Result<Event, Stop> {
+) -> Result<Event, Unanswered> {
     match event {
         TextEvent::Begin { sender, bytes } => Ok(Event::Begin(
             *sender,
@@ -69,7 +69,11 @@ pub(crate) fn event_of(
 }
 
 /// The command that an event of a list is.
-fn command_of(alloc: Global, world: &World, event: &TextEvent<'_>) -> Result<Command<()>, Stop> {
+fn command_of(
+    alloc: Global,
+    world: &World,
+    event: &TextEvent<'_>,
+) -> Result<Command<()>, Unanswered> {
     match event {
         TextEvent::Add { connection, rule } => add(alloc, world, *connection, rule),
         TextEvent::Remove { connection, rule } => {
@@ -99,7 +103,12 @@ fn command_of(alloc: Global, world: &World, event: &TextEvent<'_>) -> Result<Com
 }
 
 /// A new entry of a rule, whose program is compiled for the slot that the state gives to the rule's sender name.
-fn add(alloc: Global, world: &World, connection: u64, text: &str) -> Result<Command<()>, Stop> {
+fn add(
+    alloc: Global,
+    world: &World,
+    connection: u64,
+    text: &str,
+) -> Result<Command<()>, Unanswered> {
     let rule = rule_of(alloc, text)?;
     let Ok(slot) = slot_of(world, &rule) else {
         return Err(refused_as(
@@ -114,7 +123,7 @@ fn add(alloc: Global, world: &World, connection: u64, text: &str) -> Result<Comm
         Err(CompileError::TooLong) => {
             Err(refused_as(alloc, world, connection, TextAnswer::TooLong))
         }
-        Err(CompileError::NoMemory) => Err(Stop::NoMemory),
+        Err(CompileError::NoMemory) => Err(Unanswered::NoMemory),
     }
 }
 
@@ -141,16 +150,20 @@ fn refused_as(
     world: &World,
     connection: u64,
     otherwise: TextAnswer<'static>,
-) -> Stop {
+) -> Unanswered {
     match entry_refusal(alloc, world, connection) {
-        Ok(Some(refusal)) => Stop::refused_stop(refusal),
-        Ok(None) => Stop::Answered(otherwise),
-        Err(stop) => stop,
+        Ok(Some(refusal)) => Unanswered::refused(refusal),
+        Ok(None) => Unanswered::Answered(otherwise),
+        Err(unanswered) => unanswered,
     }
 }
 
 /// What a new entry of the connection is refused for, whatever it is of: asked by a program that ends at once.
-fn entry_refusal(alloc: Global, world: &World, connection: u64) -> Result<Option<Refusal>, Stop> {
+fn entry_refusal(
+    alloc: Global,
+    world: &World,
+    connection: u64,
+) -> Result<Option<Refusal>, Unanswered> {
     let program = program_of(alloc, &[6, 0, 0, 0, 0, 0, 0, 0])?;
     let attachment = Attachment::new(alloc, Edition::Two, program)?;
     match world.answer(&Command::Attach(connection, attachment)) {
@@ -159,23 +172,23 @@ fn entry_refusal(alloc: Global, world: &World, connection: u64) -> Result<Option
     }
 }
 
-fn rule_of(alloc: Global, text: &str) -> Result<Rule, Stop> {
+fn rule_of(alloc: Global, text: &str) -> Result<Rule, Unanswered> {
     match Rule::read(alloc, text) {
         Ok(rule) => Ok(rule),
-        Err(RuleError::NoMemory) => Err(Stop::NoMemory),
-        Err(fault) => Err(Stop::Answered(TextAnswer::Rule(fault))),
+        Err(RuleError::NoMemory) => Err(Unanswered::NoMemory),
+        Err(fault) => Err(Unanswered::Answered(TextAnswer::Rule(fault))),
     }
 }
 
 /// The program of some bytes, eight an instruction.
-fn program_of(alloc: Global, bytes: &[u8]) -> Result<Verified, Stop> {
+fn program_of(alloc: Global, bytes: &[u8]) -> Result<Verified, Unanswered> {
     // Lists have whole instructions, so that memory alone can be refused here.
     let Ok(code) = decode(alloc, bytes) else {
-        return Err(Stop::NoMemory);
+        return Err(Unanswered::NoMemory);
     };
     match verify(code) {
         Ok(program) => Ok(program),
-        Err((VerifyError::NoMemory, _)) => Err(Stop::NoMemory),
-        Err((fault, _)) => Err(Stop::Answered(TextAnswer::Program(fault))),
+        Err((VerifyError::NoMemory, _)) => Err(Unanswered::NoMemory),
+        Err((fault, _)) => Err(Unanswered::Answered(TextAnswer::Program(fault))),
     }
 }

@@ -1,7 +1,7 @@
 pub mod WholeRules
 pub mod Placing
 pub mod Keying
-pub mod Shelving
+pub mod Slabs
 pub mod Finding
 pub mod Offering
 pub mod Asking

@@ -43,5 +43,5 @@ abbrev pub but_at : ℕ → List Placed → List Placed
 but_at place held = filter (λ (x : Placed). not (place == x.0)) held
 
 -- there is room for each entry, and no place beyond it
-pub record IsShelf (slab : Slab Entry) : Type 0 where
+pub record IsEntrySlab (slab : Slab Entry) : Type 0 where
   pub capacity : slab.capacity ≡ room

@@ -1,10 +1,10 @@
 // The lists by which entries are looked up.
 
 use crate::entry::Entry;
+use crate::entry_slab::EntrySlab;
 use crate::lookup_texts::LookupTexts;
 use crate::offers::Offers;
 use crate::shapes::Shapes;
-use crate::shelf::Shelf;
 use crate::table::MAX_ENTRIES;
 use crate::text_points::TextPoints;
 use crate::texts::{HASH_LISTS, MessageTexts, list_of};
@@ -95,20 +95,20 @@ impl Index {
             .walk((connection % CONNECTION_LISTS as u64) as usize)
     }
 
-    /// The entries of a shelf that a message from this sender is offered to: each shape in use is looked up, one
+    /// The entries of a slab that a message from this sender is offered to: each shape in use is looked up, one
     /// that has a namespace once for each that the message's text is in.
     #[inline(always)]
     pub(crate) fn entries_for<'a>(
         &'a self,
-        shelf: &'a Shelf,
+        slab: &'a EntrySlab,
         view: &View<'a>,
         sender: Option<&'a str>,
     ) -> Offers<'a>
         requires { length self.now.by_texts.lists ≡ hash_lists + 1 }
-        ensures { (m : Message) → Valid view.now m → IsLookedUp self.entry.now shelf.entry.now (option_map (λ name. name.now) sender.entry) m result }
+        ensures { (m : Message) → Valid view.now m → IsLookedUp self.entry.now slab.entry.now (option_map (λ name. name.now) sender.entry) m result }
     {
         let has_arg0 = self.shapes.has_arg0();
         let found = MessageTexts::new(&self.points, view, sender, has_arg0);
-        Offers::new(shelf, &self.by_texts, found, self.shapes.in_use())
+        Offers::new(slab, &self.by_texts, found, self.shapes.in_use())
     }
 }

@@ -8,16 +8,16 @@
 
 mod attachment;
 mod entry;
+mod entry_slab;
 mod index;
 mod index_key;
-mod indexed_shelf;
+mod indexed_entries;
 mod lookup_texts;
 mod namespaces;
 mod offers;
 mod rule_program;
 mod search;
 mod shapes;
-mod shelf;
 mod table;
 mod text_points;
 mod texts;

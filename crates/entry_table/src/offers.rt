@@ -5,7 +5,7 @@ ghost use Rattle.entry_table.specs.TextKeys.{hash_lists};
 ghost use Rattle.entry_table.specs.FoundTexts.{is_offered, offered_at, coming, IsNextLookup, IsLastLookup};
 
 use crate::entry::{Entry, Filter};
-use crate::shelf::Shelf;
+use crate::entry_slab::EntrySlab;
 use crate::texts::{HASH_LISTS, MessageTexts};
 use place_lists::{Lists, Walk};
 use std::marker::Model;
@@ -33,15 +33,15 @@ fn is_offered(shape: u16, found: &MessageTexts<'_>, entry: &Entry) -> bool
 /// The next of the entries of a shape at these places that a message with these texts is offered to.
 #[inline(always)]
 fn next_at<'a>(
-    shelf: &'a Shelf,
+    slab: &'a EntrySlab,
     found: &MessageTexts<'_>,
     shape: u16,
     places: &mut Walk<'_>,
 ) -> Option<&'a Entry>
-    ensures { MatchOption result ((offered_at shelf.entry.now found.now.texts shape places.old ≡ []) × (offered_at shelf.entry.now found.now.texts shape places.new ≡ [])) (λ e. offered_at shelf.entry.now found.now.texts shape places.old ≡ e.now ∷ offered_at shelf.entry.now found.now.texts shape places.new) }
+    ensures { MatchOption result ((offered_at slab.entry.now found.now.texts shape places.old ≡ []) × (offered_at slab.entry.now found.now.texts shape places.new ≡ [])) (λ e. offered_at slab.entry.now found.now.texts shape places.old ≡ e.now ∷ offered_at slab.entry.now found.now.texts shape places.new) }
 {
     while let Some(place) = places.next() {
-        if let Some(entry) = shelf.get(place) {
+        if let Some(entry) = slab.get(place) {
             if is_offered(shape, found, entry) {
                 return Some(entry);
             }
@@ -79,16 +79,16 @@ fn next_lookup(found: &mut MessageTexts<'_>, at: &mut Cursor<'_>) -> bool
 /// The next of the entries that a message is offered to.
 #[inline(always)]
 fn next_offered<'a>(
-    shelf: &'a Shelf,
+    slab: &'a EntrySlab,
     by_texts: &'a Lists,
     found: &mut MessageTexts<'_>,
     at: &mut Cursor<'a>,
 ) -> Option<&'a Entry>
     requires { length by_texts.now.lists ≡ hash_lists + 1 }
-    ensures { MatchOption result ((coming shelf.entry.now by_texts.entry.now found.old at.old ≡ []) × (coming shelf.entry.now by_texts.entry.now found.new at.new ≡ [])) (λ e. coming shelf.entry.now by_texts.entry.now found.old at.old ≡ e.now ∷ coming shelf.entry.now by_texts.entry.now found.new at.new) }
+    ensures { MatchOption result ((coming slab.entry.now by_texts.entry.now found.old at.old ≡ []) × (coming slab.entry.now by_texts.entry.now found.new at.new ≡ [])) (λ e. coming slab.entry.now by_texts.entry.now found.old at.old ≡ e.now ∷ coming slab.entry.now by_texts.entry.now found.new at.new) }
 {
     'lookups: loop {
-        if let Some(entry) = next_at(shelf, found, at.shape, &mut at.places) {
+        if let Some(entry) = next_at(slab, found, at.shape, &mut at.places) {
             return Some(entry);
         }
         if !next_lookup(found, at) {
@@ -101,7 +101,7 @@ fn next_offered<'a>(
 /// The entries that a message is offered to, one after the other. Contracts see the list that is still to come.
 #[derive(Drop)]
 pub struct Offers<'a> {
-    shelf: &'a Shelf,
+    slab: &'a EntrySlab,
     by_texts: &'a Lists,
     found: MessageTexts<'a>,
     at: Cursor<'a>,
@@ -115,7 +115,7 @@ impl<'a> Model for Offers<'a> {
 
     ghost Value = { List Entry };
 
-    ghost view = { λ o. coming o.shelf.now o.by_texts.now o.found o.at };
+    ghost view = { λ o. coming o.slab.now o.by_texts.now o.found o.at };
 
     ghost invariant = { λ o. length o.by_texts.now.lists ≡ hash_lists + 1 };
 }
@@ -123,17 +123,17 @@ impl<'a> Model for Offers<'a> {
 impl<'a> Offers<'a> {
     ghost use Rattle.place_lists.specs.PlaceLists.{places_in};
 
-    /// The entries of a shelf that a message with these texts is offered to: those of no text, and after them
+    /// The entries of a slab that a message with these texts is offered to: those of no text, and after them
     /// those of these shapes.
     #[inline(always)]
     pub(crate) fn new(
-        shelf: &'a Shelf,
+        slab: &'a EntrySlab,
         by_texts: &'a Lists,
         found: MessageTexts<'a>,
         shapes: Walk<'a>,
     ) -> Offers<'a>
         requires { length by_texts.now.lists ≡ hash_lists + 1 }
-        ensures { result ≡ coming shelf.entry.now by_texts.entry.now found.entry (record { shape = 0; places = places_in by_texts.entry.now hash_lists; shapes = shapes.entry }) }
+        ensures { result ≡ coming slab.entry.now by_texts.entry.now found.entry (record { shape = 0; places = places_in by_texts.entry.now hash_lists; shapes = shapes.entry }) }
     {
         let at = Cursor {
             shape: 0,
@@ -141,7 +141,7 @@ impl<'a> Offers<'a> {
             shapes,
         };
         Offers {
-            shelf,
+            slab,
             by_texts,
             found,
             at,
@@ -160,6 +160,6 @@ impl<'a> Iterator for Offers<'a> {
 
     #[inline(always)]
     fn next(&mut self) -> Option<&'a Entry> {
-        next_offered(self.shelf, self.by_texts, &mut self.found, &mut self.at)
+        next_offered(self.slab, self.by_texts, &mut self.found, &mut self.at)
     }
 }

@@ -5,7 +5,7 @@ ghost use Rattle.entry_table.specs.PlacedEntries.{entry_at};
 ghost use Rattle.entry_table.specs.Searching.{suits, is_wanted, is_wanted_in, last_place};
 
 use crate::entry::Entry;
-use crate::indexed_shelf::IndexedShelf;
+use crate::indexed_entries::IndexedEntries;
 use match_rule::Rule;
 use place_lists::Walk;
 
@@ -41,10 +41,10 @@ fn is_wanted(wanted: Wanted<'_>, connection: u64, entry: &Entry) -> bool
 }
 
 /// Whether the entry at a place is wanted.
-fn is_wanted_at(shelf: &IndexedShelf, place: u16, wanted: Wanted<'_>, connection: u64) -> bool
-    ensures { result ≡ is_wanted_in wanted.entry connection (entry_at place shelf.now) }
+fn is_wanted_at(slab: &IndexedEntries, place: u16, wanted: Wanted<'_>, connection: u64) -> bool
+    ensures { result ≡ is_wanted_in wanted.entry connection (entry_at place slab.now) }
 {
-    match shelf.get(place) {
+    match slab.get(place) {
         Some(entry) => is_wanted(wanted, connection, entry),
         None => false,
     }
@@ -52,16 +52,16 @@ fn is_wanted_at(shelf: &IndexedShelf, place: u16, wanted: Wanted<'_>, connection
 
 /// The last of the places whose entry is wanted.
 pub(crate) fn last_place(
-    shelf: &IndexedShelf,
+    slab: &IndexedEntries,
     mut places: Walk<'_>,
     wanted: Wanted<'_>,
     connection: u64,
 ) -> Option<u16>
-    ensures { result ≡ last_place (λ place. is_wanted_in wanted.entry connection (entry_at place shelf.now)) places.entry }
+    ensures { result ≡ last_place (λ place. is_wanted_in wanted.entry connection (entry_at place slab.now)) places.entry }
 {
     let mut last = None;
     while let Some(place) = places.next() {
-        if is_wanted_at(shelf, place, wanted, connection) {
+        if is_wanted_at(slab, place, wanted, connection) {
             last = Some(place);
         }
     }
@@ -70,15 +70,15 @@ pub(crate) fn last_place(
 
 /// The first of the places whose entry is wanted.
 pub(crate) fn first_place(
-    shelf: &IndexedShelf,
+    slab: &IndexedEntries,
     mut places: Walk<'_>,
     wanted: Wanted<'_>,
     connection: u64,
 ) -> Option<u16>
-    ensures { result ≡ find (λ place. is_wanted_in wanted.entry connection (entry_at place shelf.now)) places.entry }
+    ensures { result ≡ find (λ place. is_wanted_in wanted.entry connection (entry_at place slab.now)) places.entry }
 {
     while let Some(place) = places.next() {
-        if is_wanted_at(shelf, place, wanted, connection) {
+        if is_wanted_at(slab, place, wanted, connection) {
             return Some(place);
         }
     }

@@ -2,7 +2,7 @@
 
 use crate::entry::{Entry, Filter};
 use crate::index_key::IndexKey;
-use crate::indexed_shelf::IndexedShelf;
+use crate::indexed_entries::IndexedEntries;
 use crate::offers::Offers;
 use crate::search::{Wanted, first_place, last_place};
 use match_rule::Rule;
@@ -16,7 +16,7 @@ pub const MAX_ENTRIES: usize = 65534;
 /// The entries of a bus, by rising id.
 #[derive(Drop)]
 pub struct EntryTable {
-    shelf: IndexedShelf,
+    slab: IndexedEntries,
     last: u32,
     count: usize,
 }
@@ -27,9 +27,9 @@ impl Model for EntryTable {
 
     ghost Value = { Entries };
 
-    ghost view = { λ t. record { entries = entries_of t.shelf; last = t.last } };
+    ghost view = { λ t. record { entries = entries_of t.slab; last = t.last } };
 
-    ghost invariant = { λ t. IsTable t.shelf t.last t.count };
+    ghost invariant = { λ t. IsTable t.slab t.last t.count };
 }
 
 impl EntryTable {
@@ -48,7 +48,7 @@ impl EntryTable {
         ensures { IfOk result (λ table. table ≡ no_entries) }
     {
         Ok(EntryTable {
-            shelf: IndexedShelf::new(alloc, key)?,
+            slab: IndexedEntries::new(alloc, key)?,
             last: 0,
             count: 0,
         })
@@ -77,7 +77,7 @@ impl EntryTable {
         ensures added { self.new ≡ record { entries = self.old.entries ++ record { id = result; connection = connection; filter = filter } ∷ []; last = result } }
     {
         let id = self.last + 1;
-        let _ = self.shelf.put(Entry {
+        let _ = self.slab.put(Entry {
             id,
             connection,
             filter,
@@ -92,13 +92,13 @@ impl EntryTable {
         ensures { result ≡ option_map (λ (e : Entry). e.id) (find (has_rule connection rule.now) self.now.entries) }
     {
         let found = last_place(
-            &self.shelf,
-            self.shelf.of_connection(connection),
+            &self.slab,
+            self.slab.of_connection(connection),
             Wanted::EqualRule(rule),
             connection,
         );
         match found {
-            Some(place) => self.shelf.id_at(place),
+            Some(place) => self.slab.id_at(place),
             None => None,
         }
     }
@@ -108,8 +108,8 @@ impl EntryTable {
         ensures { result ≡ list_any (is_attachment connection id) self.now.entries }
     {
         let found = last_place(
-            &self.shelf,
-            self.shelf.of_connection(connection),
+            &self.slab,
+            self.slab.of_connection(connection),
             Wanted::Attachment(id),
             connection,
         );
@@ -128,13 +128,13 @@ impl EntryTable {
         ensures { option_map (λ e. e.now) result ≡ find (is_rule_after connection after) self.now.entries }
     {
         let found = last_place(
-            &self.shelf,
-            self.shelf.of_connection(connection),
+            &self.slab,
+            self.slab.of_connection(connection),
             Wanted::RuleAfter(after),
             connection,
         );
         match found {
-            Some(place) => self.shelf.get(place),
+            Some(place) => self.slab.get(place),
             None => None,
         }
     }
@@ -149,15 +149,15 @@ impl EntryTable {
         ensures unchanged { IfNone result (self.new ≡ self.old) }
     {
         let found = last_place(
-            &self.shelf,
-            self.shelf.of_connection(connection),
+            &self.slab,
+            self.slab.of_connection(connection),
             wanted,
             connection,
         );
         match found {
             None => None,
             Some(place) => {
-                let entry = self.shelf.take(place);
+                let entry = self.slab.take(place);
                 self.count -= 1;
                 Some(entry)
             }
@@ -195,15 +195,15 @@ impl EntryTable {
         ensures unchanged { IfNone result (self.new ≡ self.old) }
     {
         let found = first_place(
-            &self.shelf,
-            self.shelf.of_connection(connection),
+            &self.slab,
+            self.slab.of_connection(connection),
             Wanted::Any,
             connection,
         );
         match found {
             None => None,
             Some(place) => {
-                let entry = self.shelf.take(place);
+                let entry = self.slab.take(place);
                 self.count -= 1;
                 Some(entry)
             }
@@ -224,6 +224,6 @@ impl EntryTable {
     pub fn entries_for<'a>(&'a self, view: &View<'a>, sender: Option<&'a str>) -> Offers<'a>
         ensures { (m : Message) → Valid view.now m → AreOffered self.now.entries (texts_from (option_map (λ name. name.now) sender.entry) m) result }
     {
-        self.shelf.entries_for(view, sender)
+        self.slab.entries_for(view, sender)
     }
 }

@@ -1,16 +1,15 @@
 //! A connection as all threads of a server see it: its outbox, and whoever writes what stands there to its socket. The
-//! server hands a `Mail` of each connection to the bus; the threads that put messages write them too.
+//! server hands a `SocketMailbox` of each connection to the bus; the threads that put messages write them too.
 #![tactic(auto)]
 
 mod batch;
-mod mail;
-mod member;
-mod post;
+mod socket_mailbox;
 mod unsent;
 mod whole_message;
+mod worker_handle;
 mod writer;
 
-pub use mail::Mail;
-pub use member::Member;
 pub use outbox::Room;
-pub use post::{Arrival, BELL, Post};
+pub use program_table::Handle;
+pub use socket_mailbox::SocketMailbox;
+pub use worker_handle::{Arrival, BELL, WorkerHandle};

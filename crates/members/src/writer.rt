@@ -1,7 +1,7 @@
 // The one that takes from an outbox and writes to the connection's socket.
 
-use crate::post::Post;
 use crate::unsent::Unsent;
+use crate::worker_handle::WorkerHandle;
 use endpoints::Link;
 use mio::Token;
 use outbox::{Outbox, ROOM, Taker};
@@ -22,7 +22,7 @@ pub(crate) struct Writer {
     unsent: Unsent,
     link: Arc<Link>,
     // The worker whose poll tells of room for the socket, and by which token.
-    post: Arc<Post>,
+    handle: Arc<WorkerHandle>,
     token: Token,
     asks_for_room: bool,
     // A write has failed, and nothing is written any more.
@@ -34,14 +34,14 @@ impl Writer {
         alloc: Global,
         outbox: &Outbox,
         link: Arc<Link>,
-        post: Arc<Post>,
+        handle: Arc<WorkerHandle>,
         token: Token,
     ) -> Result<Writer, AllocError> {
         Ok(Writer {
             taker: Taker::new(outbox)?,
             unsent: Unsent::new(alloc),
             link,
-            post,
+            handle,
             token,
             asks_for_room: false,
             has_failed: false,
@@ -110,7 +110,7 @@ impl Line for Writer {
 
     fn ask_for_room(&mut self, is_wanted: bool) -> io::Result<()> {
         if is_wanted || self.asks_for_room {
-            self.post.ask_for_room(&self.link, self.token, is_wanted)?;
+            self.handle.ask_for_room(&self.link, self.token, is_wanted)?;
             self.asks_for_room = is_wanted;
         }
         Ok(())

@@ -8,7 +8,7 @@ use Rattle.program_table.specs.History.{after}
 use Rattle.passes.specs.NameOwners.{IsOwner}
 use Rattle.program_table.specs.State.{State}
 use Rattle.routing.specs.SenderView.{SenderView}
-use Rattle.routing.specs.Stops.{puts_at, shut_at, waits_at, HasStop, AllFit, Keeps, Unrouted, SentTo}
+use Rattle.routing.specs.RecipientSeats.{puts_at, shut_at, waits_at, HasSeat, AllFit, Keeps, Unrouted, SentTo}
 use Rattle.passes.specs.declared.error.BusError.{BusError}
 use Rattle.passes.specs.declared.error.BusError.TheVariants as errors
 use Rattle.passes.specs.declared.unicasts.Sent.{Sent}
@@ -34,11 +34,11 @@ and_false false = refl
 full_unrouted : (n : ℕ) (bytes : List ℕ) (old new : SenderView) → SentTo n bytes false old new → Unrouted old new
 full_unrouted n bytes old new s = record {
   count_is = s.count_is;
-  puts = λ m. s.puts m ∙ ap (λ (b : Bool). puts_at m old.stops ++ cond b (s.item ∷ []) []) (and_false (n == m)) ∙ append-nil (puts_at m old.stops);
+  puts = λ m. s.puts m ∙ ap (λ (b : Bool). puts_at m old.recipient_seats ++ cond b (s.item ∷ []) []) (and_false (n == m)) ∙ append-nil (puts_at m old.recipient_seats);
 }
 
 unrouted_same : (old new : SenderView) → new ≡ old → Unrouted old new
-unrouted_same old new e = record { count_is = ap (λ (v : SenderView). v.count) e; puts = λ n. ap (λ (v : SenderView). puts_at n v.stops) e }
+unrouted_same old new e = record { count_is = ap (λ (v : SenderView). v.count) e; puts = λ n. ap (λ (v : SenderView). puts_at n v.recipient_seats) e }
 
 -- an owner that was found has its seat
 pub its_seat : (E : Type 0) (found : Result (Option ℕ) E) (N : Type 0) (O H : ℕ → Type 0) → IfOk found (λ owner. MatchOption owner N (λ n. O n × H n)) → IfOk found (λ owner. IfSome owner H)
@@ -49,13 +49,13 @@ its_seat E (Err e) N O H h = tt
 module _ {M : Type 0} where
   -- what became of a unicast message
   pub delivered : (E : Type 0) (outbox_of : M → OutboxId) (to bytes : List ℕ) (v u p q w : PassState M) (l : List (Command M)) (s : State M) (old mid new : SenderView) (found : Result (Option ℕ) E) (r : Result Sent BusError)
-      → Turn v u p q w l s old new → IfOk found (λ owner. MatchOption owner ((n : ℕ) → IsOwner s to n → ⊥) (λ n. IsOwner s to n × HasStop n mid.stops))
-      → KeepsThere outbox_of s old mid → NothingPut s old mid → Keeps [] mid new → AllFit new.origin new.count new.stops
+      → Turn v u p q w l s old new → IfOk found (λ owner. MatchOption owner ((n : ℕ) → IsOwner s to n → ⊥) (λ n. IsOwner s to n × HasSeat n mid.recipient_seats))
+      → KeepsThere outbox_of s old mid → NothingPut s old mid → Keeps [] mid new → AllFit new.origin new.count new.recipient_seats
       → IfOk r (IsDelivered found bytes mid new) → IfErr r (λ e. (e ≡ errors.NoMemory) × Unrouted mid new)
       → MatchResult r (λ sent. Unicasts outbox_of to bytes v sent w) (λ e. IsUnsent outbox_of e v w)
   delivered E outbox_of to bytes v u p q w l s old mid new found r t owners k n after_it fits ok err = go r ok err
     where
-      is : w ≡ record v { seen = l; count = new.count; stops = new.stops }
+      is : w ≡ record v { seen = l; count = new.count; recipient_seats = new.recipient_seats }
       is = turned v u p q w l s old new t
 
       nothing : NothingPut (after l) (sending v) mid
@@ -69,7 +69,7 @@ module _ {M : Type 0} where
 
       owner : (m : ℕ) → found ≡ Ok (Some m) → IsOwner (after w.seen) to m
       owner m e =
-          let F : Result (Option ℕ) E → Type 0 = λ x. IfOk x (λ owner. MatchOption owner ((n : ℕ) → IsOwner s to n → ⊥) (λ n. IsOwner s to n × HasStop n mid.stops)) in
+          let F : Result (Option ℕ) E → Type 0 = λ x. IfOk x (λ owner. MatchOption owner ((n : ℕ) → IsOwner s to n → ⊥) (λ n. IsOwner s to n × HasSeat n mid.recipient_seats)) in
           let its = subst F e owners in
           let S : State M → Type 0 = λ x. IsOwner x to m in
           let W : PassState M → Type 0 = λ x. IsOwner (after x.seen) to m in
@@ -77,15 +77,15 @@ module _ {M : Type 0} where
 
       nobody : found ≡ Ok None → (m : ℕ) → IsOwner (after w.seen) to m → ⊥
       nobody e =
-          let F : Result (Option ℕ) E → Type 0 = λ x. IfOk x (λ owner. MatchOption owner ((n : ℕ) → IsOwner s to n → ⊥) (λ n. IsOwner s to n × HasStop n mid.stops)) in
+          let F : Result (Option ℕ) E → Type 0 = λ x. IfOk x (λ owner. MatchOption owner ((n : ℕ) → IsOwner s to n → ⊥) (λ n. IsOwner s to n × HasSeat n mid.recipient_seats)) in
           let none = subst F e owners in
           let S : State M → Type 0 = λ x. (m : ℕ) → IsOwner x to m → ⊥ in
           let W : PassState M → Type 0 = λ x. (m : ℕ) → IsOwner (after x.seen) to m → ⊥ in
           subst W (sym is) (subst S t.state none)
 
-      put : (m : ℕ) → SentTo m bytes true mid new → Sends outbox_of v w × (w.count ≡ v.count) × HasPut (λ j. m == j) bytes None v w × (waits_at m w.stops ≡ true)
+      put : (m : ℕ) → SentTo m bytes true mid new → Sends outbox_of v w × (w.count ≡ v.count) × HasPut (λ j. m == j) bytes None v w × (waits_at m w.recipient_seats ≡ true)
       put m sent =
-          let W : PassState M → Type 0 = λ x. Sends outbox_of v x × (x.count ≡ v.count) × HasPut (λ j. m == j) bytes None v x × (waits_at m x.stops ≡ true) in
+          let W : PassState M → Type 0 = λ x. Sends outbox_of v x × (x.count ≡ v.count) × HasPut (λ j. m == j) bytes None v x × (waits_at m x.recipient_seats ≡ true) in
           subst W (sym is) (
             sends_to outbox_of v l new t.begins all fits,
             sent.count_is ∙ nothing.count_is,
@@ -95,13 +95,13 @@ module _ {M : Type 0} where
               mark_is = sent.mark_is;
               puts = λ j there.
                   sent.puts j ∙ ap (λ (x : List Item). x ++ cond ((m == j) && true) (sent.item ∷ []) []) (nothing.puts j there)
-                  ∙ ap (λ (b : Bool). puts_at j v.stops ++ cond b (sent.item ∷ []) []) (and_true (m == j));
+                  ∙ ap (λ (b : Bool). puts_at j v.recipient_seats ++ cond b (sent.item ∷ []) []) (and_true (m == j));
             },
             sent.waits,
           )
 
-      shut : (m : ℕ) → shut_at m new.stops ≡ true → waits_at m new.stops ≡ true → (shut_at m w.stops ≡ true) × (waits_at m w.stops ≡ true)
-      shut m e waits = let W : PassState M → Type 0 = λ x. (shut_at m x.stops ≡ true) × (waits_at m x.stops ≡ true) in subst W (sym is) (e, waits)
+      shut : (m : ℕ) → shut_at m new.recipient_seats ≡ true → waits_at m new.recipient_seats ≡ true → (shut_at m w.recipient_seats ≡ true) × (waits_at m w.recipient_seats ≡ true)
+      shut m e waits = let W : PassState M → Type 0 = λ x. (shut_at m x.recipient_seats ≡ true) × (waits_at m x.recipient_seats ≡ true) in subst W (sym is) (e, waits)
 
       go : (r : Result Sent BusError) → IfOk r (IsDelivered found bytes mid new) → IfErr r (λ e. (e ≡ errors.NoMemory) × Unrouted mid new) → MatchResult r (λ sent. Unicasts outbox_of to bytes v sent w) (λ e. IsUnsent outbox_of e v w)
       go (Ok (Put n)) ok err = let done = put n ok.1 in (owner n ok.0, done.0, done.1, done.2, done.3)

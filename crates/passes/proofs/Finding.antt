@@ -11,7 +11,7 @@ use Rattle.program_table.specs.Connections.{numbers_of, connection_of, is_connec
 use Rattle.program_table.specs.IsState.{IsState}
 use Rattle.program_table.specs.Recipients.{AreRecipients}
 use Rattle.program_table.specs.State.{State}
-use Rattle.routing.specs.Stops.{RisesFrom, is_in}
+use Rattle.routing.specs.RecipientSeats.{RisesFrom, is_in}
 
 contains_here : {X : Type 0} (x : X) (xs : List X) → Contains (x ∷ xs) x
 contains_here x xs = (0, omega arith, refl)

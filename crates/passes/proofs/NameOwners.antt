@@ -4,7 +4,7 @@ use Rattle.std.specs.Prelude.{MatchOption}
 use Rattle.std.proofs.lemmas.Bool.{or_right}
 use Rattle.program_table.specs.declared.connection.Connection.{Connection}
 use Rattle.program_table.specs.Connections.{numbers_of, is_connected}
-use Rattle.routing.specs.Stops.{is_in}
+use Rattle.routing.specs.RecipientSeats.{is_in}
 use Rattle.unique_name.specs.UniqueNames.{unique_name}
 use Rattle.passes.specs.NameSearch.{NoneIsNamed}
 use Rattle.passes.proofs.Finding.{is_in-connected}

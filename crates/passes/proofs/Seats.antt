@@ -6,34 +6,34 @@ use Rattle.std.proofs.lemmas.List.{take_more}
 use Rattle.outbox.specs.Seated.{OutboxId}
 use Rattle.program_table.specs.Connections.{numbers_of, is_connected}
 use Rattle.program_table.specs.State.{State}
-use Rattle.routing.specs.SenderView.{RecipientView, StopView, SenderView}
-use Rattle.routing.specs.Stops.{stop_at, put_in, outbox_id, knows_shut, waits_in, is_in, outbox_at, HasStop, AllHave, Lists, Keeps, Unrouted}
+use Rattle.routing.specs.SenderView.{RecipientView, RecipientSeatView, SenderView}
+use Rattle.routing.specs.RecipientSeats.{seat_at, put_in, outbox_id, knows_shut, waits_in, is_in, outbox_at, HasSeat, AllHave, Lists, Keeps, Unrouted}
 use Rattle.routing.proofs.Routes.{kept_at}
 use Rattle.passes.specs.Routes.{IsOutboxOf}
 use Rattle.passes.specs.Seats.{KeepsThere, NothingPut}
 use Rattle.passes.proofs.Finding.{is_in-connected}
 
-kept_outbox : (b : Bool) (o p : Option StopView) (outbox : OutboxId) → p ≡ cond b o None → outbox_id p ≡ Some outbox → outbox_id o ≡ Some outbox
+kept_outbox : (b : Bool) (o p : Option RecipientSeatView) (outbox : OutboxId) → p ≡ cond b o None → outbox_id p ≡ Some outbox → outbox_id o ≡ Some outbox
 kept_outbox true o p outbox e h = ap outbox_id (sym e) ∙ h
 kept_outbox false o p outbox e h = let no : outbox_id None ≡ Some outbox = ap outbox_id (sym e) ∙ h in absurd (cc)
 
-has_outbox : (o : Option StopView) → IsSome o → (outbox : OutboxId) × (outbox_id o ≡ Some outbox)
+has_outbox : (o : Option RecipientSeatView) → IsSome o → (outbox : OutboxId) × (outbox_id o ≡ Some outbox)
 has_outbox None h = absurd (true≢false (sym h))
 has_outbox (Some s) h = (s.outbox, refl)
 
-outbox_has : (o : Option StopView) (outbox : OutboxId) → outbox_id o ≡ Some outbox → IsSome o
+outbox_has : (o : Option RecipientSeatView) (outbox : OutboxId) → outbox_id o ≡ Some outbox → IsSome o
 outbox_has None outbox h = absurd (cc)
 outbox_has (Some s) outbox h = refl
 
-all_and : (xs : List ℕ) (m : ℕ) (stops : List StopView) → AllHave xs stops → HasStop m stops → AllHave (xs ++ m ∷ []) stops
-all_and [] m stops all has = (has, tt)
-all_and (x ∷ xs) m stops all has = (all.0, all_and xs m stops all.1 has)
+all_and : (xs : List ℕ) (m : ℕ) (recipient_seats : List RecipientSeatView) → AllHave xs recipient_seats → HasSeat m recipient_seats → AllHave (xs ++ m ∷ []) recipient_seats
+all_and [] m recipient_seats all has = (has, tt)
+all_and (x ∷ xs) m recipient_seats all has = (all.0, all_and xs m recipient_seats all.1 has)
 
 -- one recipient more has its seat
-pub next_has : (numbers : List ℕ) (k d : ℕ) (stops : List StopView) → k < length numbers → AllHave (take k numbers) stops → HasStop (get_or numbers k d) stops → AllHave (take (k + 1) numbers) stops
-next_has numbers k d stops lt all has =
-    let P : List ℕ → Type 0 = λ l. AllHave l stops in
-    subst P (sym (take_more numbers k d lt)) (all_and (take k numbers) (get_or numbers k d) stops all has)
+pub next_has : (numbers : List ℕ) (k d : ℕ) (recipient_seats : List RecipientSeatView) → k < length numbers → AllHave (take k numbers) recipient_seats → HasSeat (get_or numbers k d) recipient_seats → AllHave (take (k + 1) numbers) recipient_seats
+next_has numbers k d recipient_seats lt all has =
+    let P : List ℕ → Type 0 = λ l. AllHave l recipient_seats in
+    subst P (sym (take_more numbers k d lt)) (all_and (take k numbers) (get_or numbers k d) recipient_seats all has)
 
 in_take : (n k : ℕ) (xs : List ℕ) → is_in n (take k xs) ≡ true → is_in n xs ≡ true
 in_take n zero [] e = e
@@ -73,7 +73,7 @@ module _ {M : Type 0} where
     waits = λ n there e. k.waits n there (h.waits n there e);
   }
     where
-      pick : (n : ℕ) (outbox : OutboxId) → (outbox_at n b.stops ≡ Some outbox) ⊎ IsOutboxOf outbox_of s n outbox → (outbox_at n a.stops ≡ Some outbox) ⊎ IsOutboxOf outbox_of s n outbox
+      pick : (n : ℕ) (outbox : OutboxId) → (outbox_at n b.recipient_seats ≡ Some outbox) ⊎ IsOutboxOf outbox_of s n outbox → (outbox_at n a.recipient_seats ≡ Some outbox) ⊎ IsOutboxOf outbox_of s n outbox
       pick n outbox (inl e) = h.theirs n outbox e
       pick n outbox (inr e) = inr e
 
@@ -85,23 +85,23 @@ module _ {M : Type 0} where
 
   -- seats were given up at the outboxes of those that aren't there
   pub gave_up : (outbox_of : M → OutboxId) (s : State M) (numbers : List ℕ) (old new : SenderView) → numbers ≡ numbers_of s.connections
-      → new ≡ record { origin = old.origin; count = old.count; stops = filter (λ (t : StopView). is_in t.recipient numbers) old.stops } → KeepsThere outbox_of s old new × NothingPut s old new
+      → new ≡ record { origin = old.origin; count = old.count; recipient_seats = filter (λ (t : RecipientSeatView). is_in t.recipient numbers) old.recipient_seats } → KeepsThere outbox_of s old new × NothingPut s old new
   gave_up outbox_of s numbers old new are e = (
     record {
       origin_is = ap (λ (v : SenderView). v.origin) e;
       stay = λ n outbox there h. ap outbox_id (same n there) ∙ h;
-      theirs = λ n outbox h. inl (kept_outbox (is_in n numbers) (stop_at n old.stops) (stop_at n new.stops) outbox (left n) h);
+      theirs = λ n outbox h. inl (kept_outbox (is_in n numbers) (seat_at n old.recipient_seats) (seat_at n new.recipient_seats) outbox (left n) h);
       shut = λ n there h. ap knows_shut (same n there) ∙ h;
       waits = λ n there h. ap waits_in (same n there) ∙ h;
     },
     record { count_is = ap (λ (v : SenderView). v.count) e; puts = λ n there. ap put_in (same n there) },
   )
     where
-      left : (n : ℕ) → stop_at n new.stops ≡ cond (is_in n numbers) (stop_at n old.stops) None
-      left n = ap (λ (v : SenderView). stop_at n v.stops) e ∙ kept_at numbers n old.stops
+      left : (n : ℕ) → seat_at n new.recipient_seats ≡ cond (is_in n numbers) (seat_at n old.recipient_seats) None
+      left n = ap (λ (v : SenderView). seat_at n v.recipient_seats) e ∙ kept_at numbers n old.recipient_seats
 
-      same : (n : ℕ) → is_connected n s.connections ≡ true → stop_at n new.stops ≡ stop_at n old.stops
-      same n there = left n ∙ ap (λ b. cond b (stop_at n old.stops) None) (ap (is_in n) are ∙ is_in-connected n s.connections ∙ there)
+      same : (n : ℕ) → is_connected n s.connections ≡ true → seat_at n new.recipient_seats ≡ seat_at n old.recipient_seats
+      same n there = left n ∙ ap (λ b. cond b (seat_at n old.recipient_seats) None) (ap (is_in n) are ∙ is_in-connected n s.connections ∙ there)
 
   -- a seat was taken at the outbox of a connection that is there
   pub seated : (outbox_of : M → OutboxId) (s : State M) (r : RecipientView) (n : ℕ) (old new : SenderView) → (r.number ≡ n) × IsOutboxOf outbox_of s n r.outbox → Keeps (r ∷ []) old new → KeepsThere outbox_of s old new
@@ -113,7 +113,7 @@ module _ {M : Type 0} where
     waits = λ m there e. k.waits m e;
   }
     where
-      pick : (m : ℕ) (outbox : OutboxId) → (outbox_at m old.stops ≡ Some outbox) ⊎ Lists (r ∷ []) m outbox → (outbox_at m old.stops ≡ Some outbox) ⊎ IsOutboxOf outbox_of s m outbox
+      pick : (m : ℕ) (outbox : OutboxId) → (outbox_at m old.recipient_seats ≡ Some outbox) ⊎ Lists (r ∷ []) m outbox → (outbox_at m old.recipient_seats ≡ Some outbox) ⊎ IsOutboxOf outbox_of s m outbox
       pick m outbox (inl e) = inl e
       pick m outbox (inr (inl (its, there))) =
           let P : ℕ → Type 0 = λ x. IsOutboxOf outbox_of s x r.outbox in
@@ -131,17 +131,17 @@ module _ {M : Type 0} where
     waits = λ m there e. k.waits m e;
   }
     where
-      pick : (m : ℕ) (outbox : OutboxId) → (outbox_at m old.stops ≡ Some outbox) ⊎ Lists [] m outbox → (outbox_at m old.stops ≡ Some outbox) ⊎ IsOutboxOf outbox_of s m outbox
+      pick : (m : ℕ) (outbox : OutboxId) → (outbox_at m old.recipient_seats ≡ Some outbox) ⊎ Lists [] m outbox → (outbox_at m old.recipient_seats ≡ Some outbox) ⊎ IsOutboxOf outbox_of s m outbox
       pick m outbox (inl e) = inl e
       pick m outbox (inr never) = absurd never
 
   pub unrouted : (s : State M) (old new : SenderView) → Unrouted old new → NothingPut s old new
   unrouted s old new u = record { count_is = u.count_is; puts = λ n there. u.puts n }
 
-  has_still : (outbox_of : M → OutboxId) (s : State M) (n : ℕ) (old new : SenderView) → KeepsThere outbox_of s old new → is_connected n s.connections ≡ true → HasStop n old.stops → HasStop n new.stops
-  has_still outbox_of s n old new k there has = let o = has_outbox (stop_at n old.stops) has in outbox_has (stop_at n new.stops) o.0 (k.stay n o.0 there o.1)
+  has_still : (outbox_of : M → OutboxId) (s : State M) (n : ℕ) (old new : SenderView) → KeepsThere outbox_of s old new → is_connected n s.connections ≡ true → HasSeat n old.recipient_seats → HasSeat n new.recipient_seats
+  has_still outbox_of s n old new k there has = let o = has_outbox (seat_at n old.recipient_seats) has in outbox_has (seat_at n new.recipient_seats) o.0 (k.stay n o.0 there o.1)
 
-  all_still : (outbox_of : M → OutboxId) (s : State M) (numbers : List ℕ) (old new : SenderView) → ((n : ℕ) → is_in n numbers ≡ true → is_connected n s.connections ≡ true) → KeepsThere outbox_of s old new → AllHave numbers old.stops → AllHave numbers new.stops
+  all_still : (outbox_of : M → OutboxId) (s : State M) (numbers : List ℕ) (old new : SenderView) → ((n : ℕ) → is_in n numbers ≡ true → is_connected n s.connections ≡ true) → KeepsThere outbox_of s old new → AllHave numbers old.recipient_seats → AllHave numbers new.recipient_seats
   all_still outbox_of s [] old new there k all = tt
   all_still outbox_of s (m ∷ ms) old new there k all = (
     has_still outbox_of s m old new k (there m (in_first m ms)) all.0,
@@ -150,7 +150,7 @@ module _ {M : Type 0} where
 
   -- one connection more has its seat
   pub next_seat : (outbox_of : M → OutboxId) (s : State M) (numbers : List ℕ) (k d : ℕ) (old new : SenderView) → k < length numbers → ((n : ℕ) → is_in n numbers ≡ true → is_connected n s.connections ≡ true)
-      → AllHave (take k numbers) old.stops → KeepsThere outbox_of s old new → HasStop (get_or numbers k d) new.stops → AllHave (take (k + 1) numbers) new.stops
+      → AllHave (take k numbers) old.recipient_seats → KeepsThere outbox_of s old new → HasSeat (get_or numbers k d) new.recipient_seats → AllHave (take (k + 1) numbers) new.recipient_seats
   next_seat outbox_of s numbers k d old new lt there all keeps has =
-      let P : List ℕ → Type 0 = λ l. AllHave l new.stops in
-      subst P (sym (take_more numbers k d lt)) (all_and (take k numbers) (get_or numbers k d) new.stops (all_still outbox_of s (take k numbers) old new (λ n e. there n (in_take n k numbers e)) keeps all) has)
+      let P : List ℕ → Type 0 = λ l. AllHave l new.recipient_seats in
+      subst P (sym (take_more numbers k d lt)) (all_and (take k numbers) (get_or numbers k d) new.recipient_seats (all_still outbox_of s (take k numbers) old new (λ n e. there n (in_take n k numbers e)) keeps all) has)

@@ -11,7 +11,7 @@ use Rattle.program_table.specs.History.{after}
 use Rattle.program_table.specs.Recipients.{AreRecipients}
 use Rattle.program_table.specs.State.{State}
 use Rattle.routing.specs.SenderView.{SenderView}
-use Rattle.routing.specs.Stops.{is_put, AllFit, Keeps, Routed, Unrouted}
+use Rattle.routing.specs.RecipientSeats.{is_put, AllFit, Keeps, Routed, Unrouted}
 use Rattle.passes.specs.declared.reading.Source.{Source}
 use Rattle.passes.specs.declared.error.BusError.{BusError}
 use Rattle.passes.specs.declared.error.BusError.TheVariants as errors
@@ -27,15 +27,15 @@ module _ {M : Type 0} where
     pub entered : u ≡ v
     pub begins : IsPrefix v.seen l
     pub state : s ≡ after l
-    pub taken : p ≡ record u { count = 0; stops = [] }
+    pub taken : p ≡ record u { count = 0; recipient_seats = [] }
     pub is : old ≡ sending u
     pub left : q ≡ record p { seen = l }
-    pub back : w ≡ record q { count = new.count; stops = new.stops }
+    pub back : w ≡ record q { count = new.count; recipient_seats = new.recipient_seats }
 
-  pub turned : (v u p q w : PassState M) (l : List (Command M)) (s : State M) (old new : SenderView) → Turn v u p q w l s old new → w ≡ record v { seen = l; count = new.count; stops = new.stops }
+  pub turned : (v u p q w : PassState M) (l : List (Command M)) (s : State M) (old new : SenderView) → Turn v u p q w l s old new → w ≡ record v { seen = l; count = new.count; recipient_seats = new.recipient_seats }
   turned v u p q w l s old new t =
       t.back
-      ∙ ap (λ (x : PassState M). record x { count = new.count; stops = new.stops }) (t.left ∙ ap (λ (x : PassState M). record x { seen = l }) (t.taken ∙ ap (λ (x : PassState M). record x { count = 0; stops = [] }) t.entered))
+      ∙ ap (λ (x : PassState M). record x { count = new.count; recipient_seats = new.recipient_seats }) (t.left ∙ ap (λ (x : PassState M). record x { seen = l }) (t.taken ∙ ap (λ (x : PassState M). record x { count = 0; recipient_seats = [] }) t.entered))
 
   its_sender : (v u p q w : PassState M) (l : List (Command M)) (s : State M) (old new : SenderView) → Turn v u p q w l s old new → old ≡ sending v
   its_sender v u p q w l s old new t = t.is ∙ ap (λ (x : PassState M). sending x) t.entered
@@ -53,8 +53,8 @@ module _ {M : Type 0} where
       let O : SenderView → Type 0 = λ x. NothingPut (after l) x mid in
       subst O (its_sender v u p q w l s old new t) (subst S t.state k)
 
-  pub sends_to : (outbox_of : M → OutboxId) (v : PassState M) (l : List (Command M)) (new : SenderView) → IsPrefix v.seen l → KeepsThere outbox_of (after l) (sending v) new → AllFit new.origin new.count new.stops
-      → Sends outbox_of v (record v { seen = l; count = new.count; stops = new.stops })
+  pub sends_to : (outbox_of : M → OutboxId) (v : PassState M) (l : List (Command M)) (new : SenderView) → IsPrefix v.seen l → KeepsThere outbox_of (after l) (sending v) new → AllFit new.origin new.count new.recipient_seats
+      → Sends outbox_of v (record v { seen = l; count = new.count; recipient_seats = new.recipient_seats })
   sends_to outbox_of v l new begins k fits = record {
     begins = begins;
     same = refl;
@@ -63,19 +63,19 @@ module _ {M : Type 0} where
       theirs = λ n outbox e. k.theirs n outbox e;
       shut = λ n there e. k.shut n there e;
       waits = λ n there e. k.waits n there e;
-      fits = let P : ℕ → Type 0 = λ o. AllFit o new.count new.stops in subst P k.origin_is fits;
+      fits = let P : ℕ → Type 0 = λ o. AllFit o new.count new.recipient_seats in subst P k.origin_is fits;
     };
   }
 
-  pub has_not_put : (outbox_of : M → OutboxId) (v w : PassState M) (l : List (Command M)) (new : SenderView) → w ≡ record v { seen = l; count = new.count; stops = new.stops } → IsPrefix v.seen l
-      → KeepsThere outbox_of (after l) (sending v) new → NothingPut (after l) (sending v) new → AllFit new.origin new.count new.stops → HasNotPut outbox_of v w
+  pub has_not_put : (outbox_of : M → OutboxId) (v w : PassState M) (l : List (Command M)) (new : SenderView) → w ≡ record v { seen = l; count = new.count; recipient_seats = new.recipient_seats } → IsPrefix v.seen l
+      → KeepsThere outbox_of (after l) (sending v) new → NothingPut (after l) (sending v) new → AllFit new.origin new.count new.recipient_seats → HasNotPut outbox_of v w
   has_not_put outbox_of v w l new is begins k u fits =
       let P : PassState M → Type 0 = λ x. HasNotPut outbox_of v x in
       subst P (sym is) (record { sends = sends_to outbox_of v l new begins k fits; count_is = u.count_is; puts = λ n there. u.puts n there })
 
-  has_routed : (outbox_of : M → OutboxId) (source : Source) (bytes : List ℕ) (v w : PassState M) (l : List (Command M)) (mid new : SenderView) (recipients refused : List ℕ) → w ≡ record v { seen = l; count = new.count; stops = new.stops } → IsPrefix v.seen l
+  has_routed : (outbox_of : M → OutboxId) (source : Source) (bytes : List ℕ) (v w : PassState M) (l : List (Command M)) (mid new : SenderView) (recipients refused : List ℕ) → w ≡ record v { seen = l; count = new.count; recipient_seats = new.recipient_seats } → IsPrefix v.seen l
       → ((m : Message) → Valid bytes m → AreRecipients (after l) (sender_of source v.connection) m recipients) → KeepsShut recipients (sending v) mid
-      → NothingPut (after l) (sending v) mid → KeepsThere outbox_of (after l) (sending v) new → AllFit new.origin new.count new.stops → Routed bytes recipients refused mid new
+      → NothingPut (after l) (sending v) mid → KeepsThere outbox_of (after l) (sending v) new → AllFit new.origin new.count new.recipient_seats → Routed bytes recipients refused mid new
       → HasRouted outbox_of source bytes v recipients refused w
   has_routed outbox_of source bytes v w l mid new recipients refused is begins are shut u all fits r =
       let P : PassState M → Type 0 = λ x. HasRouted outbox_of source bytes v recipients refused x in
@@ -98,7 +98,7 @@ module _ {M : Type 0} where
   -- what a broadcast came to
   pub answered : (A : Type 0) (outbox_of : M → OutboxId) (source : Source) (from : Option ℕ) (bytes : List ℕ) (v u p q w : PassState M) (l : List (Command M)) (s : State M) (old mid new : SenderView) (recipients refused : List ℕ) (r : Result A BusError)
       → Turn v u p q w l s old new → from ≡ sender_of source p.connection
-      → ((m : Message) → Valid bytes m → AreRecipients s from m recipients) → KeepsShut recipients old mid → KeepsThere outbox_of s old mid → NothingPut s old mid → Keeps [] mid new → AllFit new.origin new.count new.stops
+      → ((m : Message) → Valid bytes m → AreRecipients s from m recipients) → KeepsShut recipients old mid → KeepsThere outbox_of s old mid → NothingPut s old mid → Keeps [] mid new → AllFit new.origin new.count new.recipient_seats
       → IfOk r (λ _. Routed bytes recipients refused mid new) → IfErr r (λ e. ((e ≡ errors.NoMemory) ⊎ ((e ≡ errors.Counts) × (mid.count ≡ max_count))) × Unrouted mid new)
       → MatchResult r (λ _. HasRouted outbox_of source bytes v recipients refused w) (λ e. IsUnrouted outbox_of e v w)
   answered A outbox_of source from bytes v u p q w l s old mid new recipients refused r t is are shut k n after_it fits ok err = go r ok err
@@ -113,7 +113,7 @@ module _ {M : Type 0} where
       all = keeps_on outbox_of (after l) (sending v) mid new mine (kept outbox_of (after l) mid new after_it)
 
       from_is : from ≡ sender_of source v.connection
-      from_is = is ∙ ap (λ (x : PassState M). sender_of source x.connection) (t.taken ∙ ap (λ (x : PassState M). record x { count = 0; stops = [] }) t.entered)
+      from_is = is ∙ ap (λ (x : PassState M). sender_of source x.connection) (t.taken ∙ ap (λ (x : PassState M). record x { count = 0; recipient_seats = [] }) t.entered)
 
       are_after : (m : Message) → Valid bytes m → AreRecipients (after l) (sender_of source v.connection) m recipients
       are_after m valid =

@@ -1,6 +1,6 @@
 -- Inner: the search for the connection that has a unique name.
 use Rattle.std.specs.Prelude.{◌≡◌, ℕ, true, List}
-use Rattle.routing.specs.Stops.{is_in}
+use Rattle.routing.specs.RecipientSeats.{is_in}
 use Rattle.unique_name.specs.UniqueNames.{unique_name}
 
 -- none of these connections has this unique name

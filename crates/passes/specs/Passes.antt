@@ -2,7 +2,7 @@
 use Rattle.std.specs.Prelude.{◌≡◌, ◌≢◌, ℕ, ◌≤◌, ◌<◌, Bool, false, List, [], length, Option, Some, None}
 use Rattle.program_table.specs.declared.command.Command.{Command}
 use Rattle.program_table.specs.History.{own_commands}
-use Rattle.routing.specs.SenderView.{StopView}
+use Rattle.routing.specs.SenderView.{RecipientSeatView}
 use Rattle.passes.specs.declared.reading.Source.{Source}
 use Rattle.passes.specs.declared.reading.Source.TheVariants.{Own, Bus}
 
@@ -15,7 +15,7 @@ pub record PassState (M : Type 0) : Type 0 where
   pub is_closed : Bool
   pub took : ℕ
   pub count : ℕ
-  pub stops : List StopView
+  pub recipient_seats : List RecipientSeatView
 
 -- how many readers of passes that are over a bus keeps at most
 abbrev pub max_kept : ℕ
@@ -24,7 +24,7 @@ max_kept = 256
 module _ {M : Type 0} where
   -- a pass that has seen this, and did nothing
   abbrev pub new_pass : List (Command M) → PassState M
-  new_pass seen = record { seen = seen; connection = 0; is_closed = false; took = 0; count = 0; stops = [] }
+  new_pass seen = record { seen = seen; connection = 0; is_closed = false; took = 0; count = 0; recipient_seats = [] }
 
   -- as many commands of its connection as it took were seen, its connect among them
   pub record HasTaken (v : PassState M) : Type 0 where

@@ -9,7 +9,7 @@ use Rattle.program_table.specs.Connections.{is_connected, mailbox_of}
 use Rattle.program_table.specs.History.{after}
 use Rattle.program_table.specs.Recipients.{AreRecipients}
 use Rattle.program_table.specs.State.{State}
-use Rattle.routing.specs.Stops.{RisesFrom, puts_at, outbox_at, shut_at, waits_at, all_written, is_in, is_put, AllFit}
+use Rattle.routing.specs.RecipientSeats.{RisesFrom, puts_at, outbox_at, shut_at, waits_at, all_written, is_in, is_put, AllFit}
 use Rattle.passes.specs.declared.error.BusError.{BusError}
 use Rattle.passes.specs.declared.error.BusError.TheVariants as errors
 use Rattle.passes.specs.declared.reading.Source.{Source}
@@ -32,16 +32,16 @@ module _ {M : Type 0} where
   -- known to be shut stays so, and what waits to be written out still waits. A new seat is at the outbox of a connection
   -- that is there. Seats name the pass's connection as the origin of their broadcasts, and none has a count above the pass's.
   pub record KeepsSeats (outbox_of : M → OutboxId) (v w : PassState M) : Type 0 where
-    pub stay : (n : ℕ) (outbox : OutboxId) → is_there n w ≡ true → outbox_at n v.stops ≡ Some outbox → outbox_at n w.stops ≡ Some outbox
-    pub theirs : (n : ℕ) (outbox : OutboxId) → outbox_at n w.stops ≡ Some outbox → (outbox_at n v.stops ≡ Some outbox) ⊎ IsOutboxOf outbox_of (after w.seen) n outbox
-    pub shut : (n : ℕ) → is_there n w ≡ true → shut_at n v.stops ≡ true → shut_at n w.stops ≡ true
-    pub waits : (n : ℕ) → is_there n w ≡ true → waits_at n v.stops ≡ true → waits_at n w.stops ≡ true
-    pub fits : AllFit w.connection w.count w.stops
+    pub stay : (n : ℕ) (outbox : OutboxId) → is_there n w ≡ true → outbox_at n v.recipient_seats ≡ Some outbox → outbox_at n w.recipient_seats ≡ Some outbox
+    pub theirs : (n : ℕ) (outbox : OutboxId) → outbox_at n w.recipient_seats ≡ Some outbox → (outbox_at n v.recipient_seats ≡ Some outbox) ⊎ IsOutboxOf outbox_of (after w.seen) n outbox
+    pub shut : (n : ℕ) → is_there n w ≡ true → shut_at n v.recipient_seats ≡ true → shut_at n w.recipient_seats ≡ true
+    pub waits : (n : ℕ) → is_there n w ≡ true → waits_at n v.recipient_seats ≡ true → waits_at n w.recipient_seats ≡ true
+    pub fits : AllFit w.connection w.count w.recipient_seats
 
   -- What it has sent, it has seen: a history that begins with what it had seen.
   pub record Sends (outbox_of : M → OutboxId) (v w : PassState M) : Type 0 where
     pub begins : IsPrefix v.seen w.seen
-    pub same : w ≡ record v { seen = w.seen; count = w.count; stops = w.stops }
+    pub same : w ≡ record v { seen = w.seen; count = w.count; recipient_seats = w.recipient_seats }
     pub keeps : KeepsSeats outbox_of v w
 
   -- One item more, with these bytes and this mark, was put to just these connections, of those that are there.
@@ -49,7 +49,7 @@ module _ {M : Type 0} where
     pub item : Item
     pub bytes_are : item.bytes ≡ bytes
     pub mark_is : item.mark ≡ mark
-    pub puts : (n : ℕ) → is_there n w ≡ true → puts_at n w.stops ≡ puts_at n v.stops ++ cond (goes_to n) (item ∷ []) []
+    pub puts : (n : ℕ) → is_there n w ≡ true → puts_at n w.recipient_seats ≡ puts_at n v.recipient_seats ++ cond (goes_to n) (item ∷ []) []
 
   -- One broadcast more of the message of these bytes, to its recipients after what the pass has seen: it was put to each
   -- that didn't refuse it, and nothing was put anywhere else. One that refused is a recipient whose outbox is shut, and if
@@ -61,9 +61,9 @@ module _ {M : Type 0} where
     pub count_is : w.count ≡ v.count + 1
     pub put : HasPut (λ n. is_put n recipients refused) bytes (Some (v.connection, w.count)) v w
     pub rising : RisesFrom 0 refused
-    pub listed : (n : ℕ) → is_in n refused ≡ true → (is_in n recipients ≡ true) × (shut_at n w.stops ≡ true)
-    pub again : (n : ℕ) → is_in n recipients ≡ true → shut_at n v.stops ≡ true → is_in n refused ≡ true
-    pub waits : (n : ℕ) → is_in n recipients ≡ true → waits_at n w.stops ≡ true
+    pub listed : (n : ℕ) → is_in n refused ≡ true → (is_in n recipients ≡ true) × (shut_at n w.recipient_seats ≡ true)
+    pub again : (n : ℕ) → is_in n recipients ≡ true → shut_at n v.recipient_seats ≡ true → is_in n refused ≡ true
+    pub waits : (n : ℕ) → is_in n recipients ≡ true → waits_at n w.recipient_seats ≡ true
 
   -- one broadcast more, to recipients that the answer doesn't list
   abbrev pub HasRoutedToSome : (M → OutboxId) → Source → List ℕ → PassState M → List ℕ → PassState M → Type 0
@@ -73,7 +73,7 @@ module _ {M : Type 0} where
   pub record HasNotPut (outbox_of : M → OutboxId) (v w : PassState M) : Type 0 where
     pub sends : Sends outbox_of v w
     pub count_is : w.count ≡ v.count
-    pub puts : (n : ℕ) → is_there n w ≡ true → puts_at n w.stops ≡ puts_at n v.stops
+    pub puts : (n : ℕ) → is_there n w ≡ true → puts_at n w.recipient_seats ≡ puts_at n v.recipient_seats
 
   -- Nothing was put: if the pass is closed or the bus is gone, the pass is as it was.
   abbrev pub IsUnrouted : (M → OutboxId) → BusError → PassState M → PassState M → Type 0
@@ -82,4 +82,4 @@ module _ {M : Type 0} where
 
   -- nothing that the pass has put waits to be written out any more
   abbrev pub pass_written : PassState M → PassState M
-  pass_written v = record v { stops = all_written v.stops }
+  pass_written v = record v { recipient_seats = all_written v.recipient_seats }

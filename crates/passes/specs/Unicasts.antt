@@ -2,7 +2,7 @@
 use Rattle.std.specs.Prelude.{◌≡◌, ◌⊎◌, ◌==◌, ℕ, true, List, None}
 use Rattle.outbox.specs.Seated.{OutboxId}
 use Rattle.program_table.specs.History.{after}
-use Rattle.routing.specs.Stops.{shut_at, waits_at}
+use Rattle.routing.specs.RecipientSeats.{shut_at, waits_at}
 use Rattle.passes.specs.NameOwners.{IsOwner}
 use Rattle.passes.specs.declared.error.BusError.{BusError}
 use Rattle.passes.specs.declared.error.BusError.TheVariants as errors
@@ -16,9 +16,9 @@ module _ {M : Type 0} where
   -- the owner, and nothing was put anywhere else; or nothing was put, since nobody owns the name, or the owner's outbox is
   -- shut. The owner's outbox then waits to be written out. No count is used.
   abbrev pub Unicasts : (M → OutboxId) → List ℕ → List ℕ → PassState M → Sent → PassState M → Type 0
-  Unicasts outbox_of to bytes v (Put n) w = IsOwner (after w.seen) to n × Sends outbox_of v w × (w.count ≡ v.count) × HasPut (λ m. n == m) bytes None v w × (waits_at n w.stops ≡ true)
+  Unicasts outbox_of to bytes v (Put n) w = IsOwner (after w.seen) to n × Sends outbox_of v w × (w.count ≡ v.count) × HasPut (λ m. n == m) bytes None v w × (waits_at n w.recipient_seats ≡ true)
   Unicasts outbox_of to bytes v NoOwner w = HasNotPut outbox_of v w × ((n : ℕ) → IsOwner (after w.seen) to n → ⊥)
-  Unicasts outbox_of to bytes v (Full n) w = HasNotPut outbox_of v w × IsOwner (after w.seen) to n × (shut_at n w.stops ≡ true) × (waits_at n w.stops ≡ true)
+  Unicasts outbox_of to bytes v (Full n) w = HasNotPut outbox_of v w × IsOwner (after w.seen) to n × (shut_at n w.recipient_seats ≡ true) × (waits_at n w.recipient_seats ≡ true)
 
   -- nothing was put
   abbrev pub IsUnsent : (M → OutboxId) → BusError → PassState M → PassState M → Type 0

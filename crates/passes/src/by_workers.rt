@@ -10,12 +10,12 @@ use crate::reading::Source;
 use arrayvec::ArrayVec;
 use fan_out::{FanError, Gate, MAX_RECIPIENTS, MAX_WORKERS, select_many};
 use message_view::View;
-use published::Naming;
+use published::BusBrand;
 use routing::Mailbox;
 use std::sync::Wait;
 use std::thread::Threads;
 
-impl<J: Naming, M: Mailbox + Sync> Pass<J, M> {
+impl<B: BusBrand, M: Mailbox + Sync> Pass<B, M> {
     /// The recipients of a broadcast as `recipients` gives them, found by workers. The gate, which is called round each
     /// worker's piece, may make no call under the lock: a publish may wait for this pass.
     ///
@@ -37,10 +37,10 @@ impl<J: Naming, M: Mailbox + Sync> Pass<J, M> {
         if workers == 0 || workers > MAX_WORKERS {
             return Err(BusError::Fan(FanError::Workers));
         }
-        let visit = self.enter(source)?;
+        let guard = self.enter(source)?;
         let sender = source.sender(self.connection());
-        let found = select_many(rt, visit.state(), sender, view, workers, gate);
-        self.leave(visit);
+        let found = select_many(rt, guard.state(), sender, view, workers, gate);
+        self.leave(guard);
         match found {
             Ok(found) => Ok(found),
             Err(error) => Err(BusError::Fan(error)),

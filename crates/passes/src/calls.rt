@@ -9,15 +9,15 @@ use crate::error::BusError;
 use crate::pass::Pass;
 use owners::WellKnown;
 use program_table::{Command, Reply};
-use published::Naming;
+use published::BusBrand;
 use routing::Mailbox;
 use std::sync::Wait;
 
-impl<J: Naming, M: Mailbox, R: Wait + Drop> Control<J, M, R> {
+impl<B: BusBrand, M: Mailbox, R: Wait + Drop> Control<B, M, R> {
     /// Asks for a name (RequestName).
     pub fn request_name(
         &mut self,
-        pass: &mut Pass<J, M>,
+        pass: &mut Pass<B, M>,
         name: &WellKnown,
         flags: u32,
     ) -> Result<Reply, BusError>
@@ -30,7 +30,7 @@ impl<J: Naming, M: Mailbox, R: Wait + Drop> Control<J, M, R> {
     /// Gives up a claim on a name (ReleaseName).
     pub fn release_name(
         &mut self,
-        pass: &mut Pass<J, M>,
+        pass: &mut Pass<B, M>,
         name: &WellKnown,
     ) -> Result<Reply, BusError>
         ensures { Answers false pass.old self.old (Release pass.old.connection name.now) result pass.new self.new }
@@ -40,7 +40,7 @@ impl<J: Naming, M: Mailbox, R: Wait + Drop> Control<J, M, R> {
     }
 
     /// Takes away the attached program of this id.
-    pub fn detach(&mut self, pass: &mut Pass<J, M>, id: u32) -> Result<Reply, BusError>
+    pub fn detach(&mut self, pass: &mut Pass<B, M>, id: u32) -> Result<Reply, BusError>
         ensures { Answers false pass.old self.old (Detach pass.old.connection id) result pass.new self.new }
     {
         let connection = pass.connection();
@@ -48,7 +48,7 @@ impl<J: Naming, M: Mailbox, R: Wait + Drop> Control<J, M, R> {
     }
 
     /// Gives up the claim on the least of the connection's names in byte order.
-    pub fn drop_name(&mut self, pass: &mut Pass<J, M>) -> Result<Reply, BusError>
+    pub fn drop_name(&mut self, pass: &mut Pass<B, M>) -> Result<Reply, BusError>
         ensures { Answers false pass.old self.old (DropOne pass.old.connection) result pass.new self.new }
     {
         let connection = pass.connection();
@@ -56,7 +56,7 @@ impl<J: Naming, M: Mailbox, R: Wait + Drop> Control<J, M, R> {
     }
 
     /// Closes the connection, with its entries and claims.
-    pub fn close(&mut self, pass: &mut Pass<J, M>) -> Result<Reply, BusError>
+    pub fn close(&mut self, pass: &mut Pass<B, M>) -> Result<Reply, BusError>
         ensures { Answers true pass.old self.old (Close pass.old.connection) result pass.new self.new }
     {
         let connection = pass.connection();

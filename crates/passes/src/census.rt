@@ -12,7 +12,7 @@ use crate::names::{names_in, owner_in};
 use entry_table::{Entry, Filter, RuleProgram};
 use owners::WellKnown;
 use program_table::{BusState, Connection};
-use published::Naming;
+use published::BusBrand;
 use routing::Mailbox;
 use std::alloc::{AllocError, Global};
 use std::sync::Wait;
@@ -45,7 +45,7 @@ fn rules_in<M: Mailbox>(
     Ok(rules)
 }
 
-impl<J: Naming, M: Mailbox, R: Wait + Drop> Control<J, M, R> {
+impl<B: BusBrand, M: Mailbox, R: Wait + Drop> Control<B, M, R> {
     /// The connections by rising number.
     pub fn connections(&self) -> &[Connection<M>]
         ensures { result.now ≡ (after self.now.history).connections }

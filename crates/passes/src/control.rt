@@ -17,7 +17,8 @@ use left_right::Absorb;
 use logbook::Rule;
 use program_table::{BusState, Capacity, Command, Reply};
 use published::{
-    Entry, Front, Law, Naming, Opened, PublishError, Published, Publisher, Shown, StateReader,
+    BusBrand, Entry, HistoryPrefix, Law, Opened, PublishError, Published, Publisher, Shown,
+    StateReader,
 };
 use routing::Mailbox;
 use std::alloc::{AllocError, Global};
@@ -33,19 +34,19 @@ struct Held<P: Drop> {
 
 /// The writer of the published state, as calls are lent it.
 #[derive(Drop)]
-pub struct Control<J: Naming, M: Mailbox, R: Wait + Drop>
+pub struct Control<B: BusBrand, M: Mailbox, R: Wait + Drop>
 where
-    Published: Protocol<Shown<J, M>, LinkedList<Command<M>>>,
-    Shown<J, M>: Absorb<Entry<J, M>, State = LinkedList<Command<M>>>,
+    Published: Protocol<Shown<B, M>, LinkedList<Command<M>>>,
+    Shown<B, M>: Absorb<Entry<B, M>, State = LinkedList<Command<M>>>,
     Law: Rule<Command<M>, u64>,
 {
-    publisher: Held<Publisher<J, M, R>>,
+    publisher: Held<Publisher<B, M, R>>,
 }
 
-impl<J: Naming, M: Mailbox, R: Wait + Drop> Model for Control<J, M, R>
+impl<B: BusBrand, M: Mailbox, R: Wait + Drop> Model for Control<B, M, R>
 where
-    Published: Protocol<Shown<J, M>, LinkedList<Command<M>>>,
-    Shown<J, M>: Absorb<Entry<J, M>, State = LinkedList<Command<M>>>,
+    Published: Protocol<Shown<B, M>, LinkedList<Command<M>>>,
+    Shown<B, M>: Absorb<Entry<B, M>, State = LinkedList<Command<M>>>,
     Law: Rule<Command<M>, u64>,
 {
     ghost use Rattle.published.specs.Publication.{Publication};
@@ -55,7 +56,7 @@ where
     ghost view = { λ c. c.publisher.value };
 }
 
-impl<J: Naming, M: Mailbox, R: Wait + Drop> Control<J, M, R> {
+impl<B: BusBrand, M: Mailbox, R: Wait + Drop> Control<B, M, R> {
     /// A bus to which nobody is connected, with places for this many readers. The key is that of its index of entries.
     pub fn new(
         rt: R,
@@ -63,8 +64,8 @@ impl<J: Naming, M: Mailbox, R: Wait + Drop> Control<J, M, R> {
         key: IndexKey,
         opened: Opened<M>,
         readers: usize,
-    ) -> Result<Control<J, M, R>, AllocError>
-        requires name { opened ≡ J.book }
+    ) -> Result<Control<B, M, R>, AllocError>
+        requires name { opened ≡ B.book }
         requires readers { (0 < readers) × (readers < 2 ^ 32) }
         ensures { IfOk result (λ control. control ≡ nothing_published) }
     {
@@ -76,25 +77,25 @@ impl<J: Naming, M: Mailbox, R: Wait + Drop> Control<J, M, R> {
     }
 
     /// A new pass with a reader of its own, which has seen what is published.
-    pub fn pass(&mut self) -> Result<Pass<J, M>, BusError>
+    pub fn pass(&mut self) -> Result<Pass<B, M>, BusError>
         ensures same { self.new ≡ self.old }
         ensures pass { MatchResult result (λ pass. pass ≡ new_pass self.old.history) (λ error. error ≡ BusError.Busy) }
     {
-        match self.publisher.value.sight() {
-            Some(sight) => Ok(Pass::new(sight)),
+        match self.publisher.value.history_reader() {
+            Some(history_reader) => Ok(Pass::new(history_reader)),
             None => Err(BusError::Busy),
         }
     }
 
     /// A new pass without a reader, which has seen what is published. It reads by what is lent to it.
-    pub fn pass_without_reader(&self) -> Pass<J, M>
+    pub fn pass_without_reader(&self) -> Pass<B, M>
         ensures { result ≡ new_pass self.now.history }
     {
         Pass::new(self.publisher.value.sight_without_reader())
     }
 
     /// A new reader, for the passes to which it will be lent.
-    pub fn reader(&mut self) -> Result<StateReader<J, M>, BusError>
+    pub fn reader(&mut self) -> Result<StateReader<B, M>, BusError>
         ensures same { self.new ≡ self.old }
         ensures error { IfErr result (λ error. error ≡ BusError.Busy) }
     {
@@ -102,7 +103,7 @@ impl<J: Naming, M: Mailbox, R: Wait + Drop> Control<J, M, R> {
     }
 
     /// Tells the published history, which the pass has then seen.
-    pub fn tell(&self, pass: &mut Pass<J, M>) -> Result<Front<J, M>, BusError>
+    pub fn tell(&self, pass: &mut Pass<B, M>) -> Result<HistoryPrefix<B, M>, BusError>
         ensures { MatchResult result
             (λ told_history. (told_history ≡ self.now.history) × IsPrefix pass.old.seen told_history × (pass.new ≡ record pass.old { seen = told_history }))
             (λ error. (error ≡ BusError.Closed) × (length self.now.history < length pass.old.seen) × (pass.new ≡ pass.old)) }
@@ -117,7 +118,7 @@ impl<J: Naming, M: Mailbox, R: Wait + Drop> Control<J, M, R> {
     }
 
     /// Whether the pass's connection is there and has no claim on a name, so that `drop_name` would find nothing.
-    pub fn claims_nothing(&self, pass: &Pass<J, M>) -> bool
+    pub fn claims_nothing(&self, pass: &Pass<B, M>) -> bool
         ensures { MatchBool result (ClaimsNothing pass.now.connection self.now) (ClaimsOrIsGone pass.now.connection self.now) }
     {
         let command = Command::DropOne(pass.connection());
@@ -133,7 +134,7 @@ impl<J: Naming, M: Mailbox, R: Wait + Drop> Control<J, M, R> {
     }
 
     /// Whether the pass may ask for something. It has then seen what is published.
-    pub(crate) fn admit(&self, pass: &mut Pass<J, M>) -> Result<(), BusError>
+    pub(crate) fn admit(&self, pass: &mut Pass<B, M>) -> Result<(), BusError>
         ensures { Admits pass.old self.now result pass.new }
     {
         let connection = pass.connection();
@@ -152,7 +153,7 @@ impl<J: Naming, M: Mailbox, R: Wait + Drop> Control<J, M, R> {
     /// Publishes a command of a pass that was admitted, which the pass has then seen.
     pub(crate) fn publish(
         &mut self,
-        pass: &mut Pass<J, M>,
+        pass: &mut Pass<B, M>,
         command: Command<M>,
     ) -> Result<Reply, BusError>
         requires ready { IsReady pass.old self.old }
@@ -175,7 +176,7 @@ impl<J: Naming, M: Mailbox, R: Wait + Drop> Control<J, M, R> {
     /// Publishes a command of the pass's connection, which the pass has then seen.
     pub(crate) fn command(
         &mut self,
-        pass: &mut Pass<J, M>,
+        pass: &mut Pass<B, M>,
         command: Command<M>,
     ) -> Result<Reply, BusError>
         requires { (s : State M) → is_command_of s pass.old.connection command ≡ true }
@@ -201,7 +202,7 @@ impl<J: Naming, M: Mailbox, R: Wait + Drop> Control<J, M, R> {
     }
 
     /// Makes the connection of a pass that has none yet, whose messages go to the mailbox.
-    pub fn connect(&mut self, pass: &mut Pass<J, M>, mailbox: M) -> Result<Reply, BusError>
+    pub fn connect(&mut self, pass: &mut Pass<B, M>, mailbox: M) -> Result<Reply, BusError>
         ensures { Connects pass.old self.old mailbox result pass.new self.new }
     {
         let connection = pass.connection();

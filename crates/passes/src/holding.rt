@@ -5,11 +5,11 @@ ghost use Rattle.std.specs.Prelude.{◌≡◌, None, IfOk};
 use crate::pass::Pass;
 use bytes::Bytes;
 use outbox::Item;
-use published::Naming;
+use published::BusBrand;
 use routing::Mailbox;
 use std::alloc::{AllocError, Global};
 
-impl<J: Naming, M: Mailbox> Pass<J, M> {
+impl<B: BusBrand, M: Mailbox> Pass<B, M> {
     /// Holds what is put from now on until `release`: no outbox gives it out before, so that nobody can answer one of
     /// these messages before all of them are put. A pass that isn't connected puts nothing.
     pub fn hold(&mut self, alloc: Global)

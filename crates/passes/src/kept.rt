@@ -6,7 +6,7 @@ ghost use Rattle.passes.specs.Passes.{max_kept, new_pass};
 use crate::pass::Pass;
 use crossbeam_utils::rule::Protocol;
 use program_table::Command;
-use published::{Naming, Published, Shown, Sight};
+use published::{BusBrand, HistoryReader, Published, Shown};
 use routing::Mailbox;
 use std::alloc::{AllocError, Global};
 use std::collections::LinkedList;
@@ -17,16 +17,16 @@ const KEPT: usize = 256;
 
 /// The readers of passes that are over, in room that is reserved. Contracts see what each has seen.
 #[derive(Drop)]
-pub struct KeptPasses<J: Naming, M: Mailbox>
+pub struct KeptPasses<B: BusBrand, M: Mailbox>
 where
-    Published: Protocol<Shown<J, M>, LinkedList<Command<M>>>,
+    Published: Protocol<Shown<B, M>, LinkedList<Command<M>>>,
 {
-    sights: Vec<Sight<J, M>>,
+    sights: Vec<HistoryReader<B, M>>,
 }
 
-impl<J: Naming, M: Mailbox> Model for KeptPasses<J, M>
+impl<B: BusBrand, M: Mailbox> Model for KeptPasses<B, M>
 where
-    Published: Protocol<Shown<J, M>, LinkedList<Command<M>>>,
+    Published: Protocol<Shown<B, M>, LinkedList<Command<M>>>,
 {
     ghost use Rattle.std.specs.Prelude.{◌≤◌, List};
     ghost use Rattle.std.specs.Vec.{vec_capacity};
@@ -40,9 +40,9 @@ where
     ghost invariant = { λ k. max_kept ≤ vec_capacity k.sights };
 }
 
-impl<J: Naming, M: Mailbox> KeptPasses<J, M> {
+impl<B: BusBrand, M: Mailbox> KeptPasses<B, M> {
     /// No reader is kept.
-    pub fn new(alloc: Global) -> Result<KeptPasses<J, M>, AllocError>
+    pub fn new(alloc: Global) -> Result<KeptPasses<B, M>, AllocError>
         ensures { IfOk result (λ kept. kept ≡ []) }
     {
         Ok(KeptPasses {
@@ -51,7 +51,7 @@ impl<J: Naming, M: Mailbox> KeptPasses<J, M> {
     }
 
     /// Keeps the reader of a pass that is over where there is room, and drops it else.
-    pub fn put(&mut self, pass: Pass<J, M>)
+    pub fn put(&mut self, pass: Pass<B, M>)
         ensures { self.new ≡ (if nat_lt (length self.old) max_kept then self.old ++ pass.seen ∷ [] else self.old) }
     {
         if self.sights.len() < KEPT {
@@ -60,11 +60,11 @@ impl<J: Naming, M: Mailbox> KeptPasses<J, M> {
     }
 
     /// A new pass with the reader that was kept last, which has seen what that one had.
-    pub fn take(&mut self) -> Option<Pass<J, M>>
+    pub fn take(&mut self) -> Option<Pass<B, M>>
         ensures { MatchOption result ((self.old ≡ []) × (self.new ≡ [])) (λ pass. (self.old ≡ self.new ++ pass.seen ∷ []) × (pass ≡ new_pass pass.seen)) }
     {
         match self.sights.pop() {
-            Some(sight) => Some(Pass::new(sight)),
+            Some(history_reader) => Some(Pass::new(history_reader)),
             None => None,
         }
     }

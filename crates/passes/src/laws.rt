@@ -17,7 +17,7 @@ ghost use Rattle.passes.specs.declared.name_call.NameCall.{NameCall};
 ghost use Rattle.passes.specs.Routes.{HasRouted, is_there};
 ghost use Rattle.passes.specs.Unicasts.{Unicasts};
 ghost use Rattle.passes.specs.declared.unicasts.Sent.{Sent};
-ghost use Rattle.routing.specs.Stops.{puts_at, waits_at};
+ghost use Rattle.routing.specs.RecipientSeats.{puts_at, waits_at};
 
 use routing::Mailbox;
 
@@ -42,7 +42,7 @@ pub fn bus_is_heard_by_the_same<M: Mailbox>()
 /// to a name has put nothing at it.
 pub fn what_is_put_waits<M: Mailbox>()
     ensures broadcast { (v w : PassState M) (source : Source) (bytes recipients refused : List ℕ) (n : ℕ)
-        → HasRouted M.outbox_of source bytes v recipients refused w → is_there n w ≡ true → waits_at n w.stops ≡ false → puts_at n w.stops ≡ puts_at n v.stops }
+        → HasRouted M.outbox_of source bytes v recipients refused w → is_there n w ≡ true → waits_at n w.recipient_seats ≡ false → puts_at n w.recipient_seats ≡ puts_at n v.recipient_seats }
     ensures unicast { (v w : PassState M) (to bytes : List ℕ) (sent : Sent) (n : ℕ)
-        → Unicasts M.outbox_of to bytes v sent w → is_there n w ≡ true → waits_at n w.stops ≡ false → puts_at n w.stops ≡ puts_at n v.stops }
+        → Unicasts M.outbox_of to bytes v sent w → is_there n w ≡ true → waits_at n w.recipient_seats ≡ false → puts_at n w.recipient_seats ≡ puts_at n v.recipient_seats }
 {}

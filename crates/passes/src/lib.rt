@@ -37,5 +37,5 @@ pub use unicasts::Sent;
 pub use entry_table::IndexKey;
 pub use fan_out::MAX_RECIPIENTS;
 pub use program_table::{Capacity, Command, Refusal, Reply};
-pub use published::{Front, Naming, Opened, Published, Shown, StateReader};
+pub use published::{BusBrand, HistoryPrefix, Opened, Published, Shown, StateReader};
 pub use routing::Mailbox;

@@ -14,11 +14,11 @@ use crate::reading::Source;
 use arrayvec::ArrayVec;
 use fan_out::MAX_RECIPIENTS;
 use owners::WellKnown;
-use published::Naming;
+use published::BusBrand;
 use routing::Mailbox;
 use std::alloc::Global;
 
-impl<J: Naming, M: Mailbox> Pass<J, M> {
+impl<B: BusBrand, M: Mailbox> Pass<B, M> {
     /// The numbers of the connections, rising, and the owned names in the order of bytes, after a history that begins
     /// with what was seen, and is seen then.
     ///
@@ -33,10 +33,10 @@ impl<J: Naming, M: Mailbox> Pass<J, M> {
         ensures found { Tells self.old.seen (λ s found. (found.0.items ≡ numbers_of s.connections) × AreNames s.registrations.claims found.1.items) result self.new.seen }
         ensures same { self.new ≡ record self.old { seen = self.new.seen } }
     {
-        let visit = self.enter(Source::Own)?;
-        let numbers = numbers_in(visit.state());
-        let names = names_in(visit.state(), alloc);
-        self.leave(visit);
+        let guard = self.enter(Source::Own)?;
+        let numbers = numbers_in(guard.state());
+        let names = names_in(guard.state(), alloc);
+        self.leave(guard);
         match names {
             Ok(names) => Ok((numbers, names)),
             Err(_) => Err(BusError::NoMemory),
@@ -54,9 +54,9 @@ impl<J: Naming, M: Mailbox> Pass<J, M> {
         ensures found { Tells self.old.seen (λ s found. found.items ≡ queue_of name.now s.registrations.claims) result self.new.seen }
         ensures same { self.new ≡ record self.old { seen = self.new.seen } }
     {
-        let visit = self.enter(Source::Own)?;
-        let found = visit.state().queue_of(name.as_str()).collect(alloc);
-        self.leave(visit);
+        let guard = self.enter(Source::Own)?;
+        let found = guard.state().queue_of(name.as_str()).collect(alloc);
+        self.leave(guard);
         match found {
             Ok(found) => Ok(found),
             Err(_) => Err(BusError::NoMemory),

@@ -9,7 +9,7 @@ use crate::error::BusError;
 use crate::pass::Pass;
 use owners::{Change, WellKnown};
 use program_table::{Command, Reply};
-use published::Naming;
+use published::BusBrand;
 use routing::Mailbox;
 use std::sync::Wait;
 
@@ -48,7 +48,7 @@ fn change_in(reply: Reply) -> Option<Change>
     }
 }
 
-impl<J: Naming, M: Mailbox, R: Wait + Drop> Control<J, M, R> {
+impl<B: BusBrand, M: Mailbox, R: Wait + Drop> Control<B, M, R> {
     /// The change of a name's owner that a call of the pass would make now, if any. The pass has then seen what is published.
     ///
     /// # Errors
@@ -56,7 +56,7 @@ impl<J: Naming, M: Mailbox, R: Wait + Drop> Control<J, M, R> {
     /// `Closed` if the pass may not call.
     pub fn foresee(
         &self,
-        pass: &mut Pass<J, M>,
+        pass: &mut Pass<B, M>,
         call: &NameCall,
     ) -> Result<Option<Change>, BusError>
         ensures { Foresees pass.old self.now (command_of pass.old.connection call.now) result pass.new }
@@ -67,7 +67,7 @@ impl<J: Naming, M: Mailbox, R: Wait + Drop> Control<J, M, R> {
     }
 
     /// Publishes the call's command.
-    pub fn change_name(&mut self, pass: &mut Pass<J, M>, call: &NameCall) -> Result<Reply, BusError>
+    pub fn change_name(&mut self, pass: &mut Pass<B, M>, call: &NameCall) -> Result<Reply, BusError>
         ensures { Answers false pass.old self.old (command_of pass.old.connection call.now) result pass.new self.new }
     {
         match call {

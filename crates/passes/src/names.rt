@@ -4,7 +4,7 @@ ghost use Rattle.std.specs.Prelude.{◌≡◌, ◌≤◌, ◌↔◌, ℕ, true, 
 ghost use Rattle.owners.specs.WellKnown.{is_unique};
 ghost use Rattle.owners.specs.Queues.{owner_of};
 ghost use Rattle.program_table.specs.Connections.{is_connected, numbers_of};
-ghost use Rattle.routing.specs.Stops.{is_in};
+ghost use Rattle.routing.specs.RecipientSeats.{is_in};
 ghost use Rattle.unique_name.specs.UniqueNames.{unique_name};
 ghost use Rattle.passes.specs.Names.{AreNames};
 ghost use Rattle.passes.specs.NameOwners.{IsOwner};

@@ -10,7 +10,7 @@ use crate::error::BusError;
 use crate::reading::Source;
 use crossbeam_utils::rule::Protocol;
 use program_table::Command;
-use published::{Front, Naming, Published, Shown, Sight, StateReader, Visit};
+use published::{BusBrand, HistoryPrefix, HistoryReader, Published, ReadGuard, Shown, StateReader};
 use routing::{Mailbox, Sender};
 use std::alloc::Global;
 use std::collections::LinkedList;
@@ -18,11 +18,11 @@ use std::marker::Model;
 
 /// One user of the bus: what it has seen of the history, its connection, and how many of its calls were accepted.
 #[derive(Drop)]
-pub struct Pass<J: Naming, M: Mailbox>
+pub struct Pass<B: BusBrand, M: Mailbox>
 where
-    Published: Protocol<Shown<J, M>, LinkedList<Command<M>>>,
+    Published: Protocol<Shown<B, M>, LinkedList<Command<M>>>,
 {
-    sight: Sight<J, M>,
+    history_reader: HistoryReader<B, M>,
     // 0 where the pass was never connected.
     connection: u64,
     is_closed: bool,
@@ -31,27 +31,27 @@ where
     pub(crate) sender: Option<Sender<M>>,
 }
 
-impl<J: Naming, M: Mailbox> Model for Pass<J, M>
+impl<B: BusBrand, M: Mailbox> Model for Pass<B, M>
 where
-    Published: Protocol<Shown<J, M>, LinkedList<Command<M>>>,
+    Published: Protocol<Shown<B, M>, LinkedList<Command<M>>>,
 {
     ghost use Rattle.passes.specs.Passes.{PassState, HasTaken};
-    ghost use Rattle.passes.specs.Sending.{SendsFor, count_in, stops_in};
+    ghost use Rattle.passes.specs.Sending.{SendsFor, count_in, recipient_seats_in};
 
     ghost Value = { PassState M };
 
-    ghost view = { λ p. record { seen = p.sight; connection = p.connection; is_closed = p.is_closed; took = p.took; count = count_in p.sender; stops = stops_in p.sender } };
+    ghost view = { λ p. record { seen = p.history_reader; connection = p.connection; is_closed = p.is_closed; took = p.took; count = count_in p.sender; recipient_seats = recipient_seats_in p.sender } };
 
-    ghost invariant = { λ p. HasTaken (record { seen = p.sight; connection = p.connection; is_closed = p.is_closed; took = p.took; count = count_in p.sender; stops = stops_in p.sender }) × SendsFor p.connection p.sender };
+    ghost invariant = { λ p. HasTaken (record { seen = p.history_reader; connection = p.connection; is_closed = p.is_closed; took = p.took; count = count_in p.sender; recipient_seats = recipient_seats_in p.sender }) × SendsFor p.connection p.sender };
 }
 
-impl<J: Naming, M: Mailbox> Pass<J, M> {
+impl<B: BusBrand, M: Mailbox> Pass<B, M> {
     /// A pass that did nothing.
-    pub(crate) fn new(sight: Sight<J, M>) -> Pass<J, M>
-        ensures { result ≡ new_pass sight }
+    pub(crate) fn new(history_reader: HistoryReader<B, M>) -> Pass<B, M>
+        ensures { result ≡ new_pass history_reader }
     {
         Pass {
-            sight,
+            history_reader,
             connection: 0,
             is_closed: false,
             took: 0,
@@ -60,29 +60,29 @@ impl<J: Naming, M: Mailbox> Pass<J, M> {
     }
 
     /// Reads the published state by this reader from now on, in place of the one that it had.
-    pub fn lend(&mut self, reader: StateReader<J, M>)
+    pub fn lend(&mut self, reader: StateReader<B, M>)
         ensures { self.new ≡ self.old }
     {
-        self.sight.lend(reader);
+        self.history_reader.lend(reader);
     }
 
     /// Gives up the reader. Until another is lent, whatever reads the published state is Closed.
-    pub fn reclaim(&mut self) -> Option<StateReader<J, M>>
+    pub fn reclaim(&mut self) -> Option<StateReader<B, M>>
         ensures { self.new ≡ self.old }
     {
-        self.sight.reclaim()
+        self.history_reader.reclaim()
     }
 
     /// Whether it has a reader.
     pub fn has_reader(&self) -> bool {
-        self.sight.has_reader()
+        self.history_reader.has_reader()
     }
 
     /// The history that was seen.
-    pub fn history(&self) -> &Front<J, M>
+    pub fn history(&self) -> &HistoryPrefix<B, M>
         ensures { result.now ≡ self.now.seen }
     {
-        self.sight.history()
+        self.history_reader.history()
     }
 
     /// The number of the connection that the pass's `connect` made, 0 before that.
@@ -108,25 +108,25 @@ impl<J: Naming, M: Mailbox> Pass<J, M> {
     }
 
     /// Takes over a told history: the longer of the two is then seen. One of them begins the other.
-    pub fn learn(&mut self, told_history: &Front<J, M>)
+    pub fn learn(&mut self, told_history: &HistoryPrefix<B, M>)
         ensures one { (self.new.seen ≡ self.old.seen) ⊎ (self.new.seen ≡ told_history.now) }
         ensures this { IsPrefix self.old.seen self.new.seen }
         ensures that { IsPrefix told_history.now self.new.seen }
         ensures same { self.new ≡ record self.old { seen = self.new.seen } }
     {
-        self.sight.learn(told_history);
+        self.history_reader.learn(told_history);
     }
 
     /// Takes over a history, which begins with what was seen; it is then seen.
-    pub(crate) fn take_over(&mut self, told_history: Front<J, M>)
+    pub(crate) fn take_over(&mut self, told_history: HistoryPrefix<B, M>)
         requires { IsPrefix self.old.seen told_history }
         ensures { self.new ≡ record self.old { seen = told_history } }
     {
-        self.sight.take_over(told_history);
+        self.history_reader.take_over(told_history);
     }
 
     /// Takes over a history in which one more command of the connection was accepted; it is then seen.
-    pub(crate) fn count_in(&mut self, told_history: Front<J, M>, connection: u64)
+    pub(crate) fn count_in(&mut self, told_history: HistoryPrefix<B, M>, connection: u64)
         requires begins { IsPrefix self.old.seen told_history }
         requires room { self.old.took + 1 < 2 ^ 64 }
         requires number { connection ≢ 0 }
@@ -134,7 +134,7 @@ impl<J: Naming, M: Mailbox> Pass<J, M> {
         requires own { self.old.took + 1 ≤ length (own_commands connection told_history) }
         ensures { self.new ≡ record self.old { seen = told_history; connection = connection; took = self.old.took + 1 } }
     {
-        self.sight.take_over(told_history);
+        self.history_reader.take_over(told_history);
         self.connection = connection;
         self.took += 1;
     }
@@ -151,7 +151,7 @@ impl<J: Naming, M: Mailbox> Pass<J, M> {
     pub(crate) fn take_sender(&mut self, alloc: Global) -> Sender<M>
         requires { self.old.connection ≢ 0 }
         ensures sender { result ≡ sending self.old }
-        ensures same { self.new ≡ record self.old { count = 0; stops = [] } }
+        ensures same { self.new ≡ record self.old { count = 0; recipient_seats = [] } }
     {
         match self.sender.take() {
             Some(sender) => sender,
@@ -163,23 +163,23 @@ impl<J: Naming, M: Mailbox> Pass<J, M> {
     pub(crate) fn put_back(&mut self, sender: Sender<M>)
         requires number { self.old.connection ≢ 0 }
         requires origin { sender.origin ≡ self.old.connection }
-        ensures { self.new ≡ record self.old { count = sender.count; stops = sender.stops } }
+        ensures { self.new ≡ record self.old { count = sender.count; recipient_seats = sender.recipient_seats } }
     {
         self.sender = Some(sender);
     }
 
     /// Gives up the pass, and keeps the reader with what it has seen.
-    pub(crate) fn into_sight(self) -> Sight<J, M>
+    pub(crate) fn into_sight(self) -> HistoryReader<B, M>
         ensures { result ≡ self.seen }
     {
         let Self {
-            sight,
+            history_reader,
             connection: _,
             is_closed: _,
             took: _,
             sender: _,
         } = self;
-        sight
+        history_reader
     }
 
     /// Enters the published state for a message of this source, or for a question of the pass's own: the history that the
@@ -189,22 +189,22 @@ impl<J: Naming, M: Mailbox> Pass<J, M> {
     ///
     /// `Closed` where the pass was never connected, or was closed and the message isn't the bus's, where it has no reader,
     /// or the bus is gone.
-    pub(crate) fn enter(&mut self, source: Source) -> Result<Visit<J, M>, BusError>
-        ensures visit { MatchResult result (λ visit. IsPrefix self.old.seen visit × (self.new.connection ≢ 0)) (λ error. error ≡ BusError.Closed) }
+    pub(crate) fn enter(&mut self, source: Source) -> Result<ReadGuard<B, M>, BusError>
+        ensures guard { MatchResult result (λ guard. IsPrefix self.old.seen guard × (self.new.connection ≢ 0)) (λ error. error ≡ BusError.Closed) }
         ensures open { IfOk result (λ _. IsOpenTo source self.old) }
         ensures same { self.new ≡ self.old }
     {
         if self.connection == 0 || (source == Source::Own && self.is_closed) {
             return Err(BusError::Closed);
         }
-        self.sight.enter().ok_or(BusError::Closed)
+        self.history_reader.enter().ok_or(BusError::Closed)
     }
 
     /// Leaves the published state, whose history is then seen.
-    pub(crate) fn leave(&mut self, visit: Visit<J, M>)
-        requires { IsPrefix self.old.seen visit }
-        ensures { self.new ≡ record self.old { seen = visit } }
+    pub(crate) fn leave(&mut self, guard: ReadGuard<B, M>)
+        requires { IsPrefix self.old.seen guard }
+        ensures { self.new ≡ record self.old { seen = guard } }
     {
-        self.sight.leave(visit);
+        self.history_reader.leave(guard);
     }
 }

@@ -20,7 +20,7 @@ use arrayvec::ArrayVec;
 use fan_out::{MAX_RECIPIENTS, may_reach, select, select_into};
 use message_view::View;
 use owners::WellKnown;
-use published::Naming;
+use published::BusBrand;
 use routing::Mailbox;
 
 /// Whose message a pass asks for.
@@ -44,7 +44,7 @@ impl Source {
     }
 }
 
-impl<J: Naming, M: Mailbox> Pass<J, M> {
+impl<B: BusBrand, M: Mailbox> Pass<B, M> {
     /// The recipients of a broadcast, by rising number, after a history that begins with what was seen, and is seen
     /// then.
     ///
@@ -61,10 +61,10 @@ impl<J: Naming, M: Mailbox> Pass<J, M> {
             (λ error. (error ≡ BusError.Closed) × (self.new.seen ≡ self.old.seen)) }
         ensures same { self.new ≡ record self.old { seen = self.new.seen } }
     {
-        let visit = self.enter(source)?;
+        let guard = self.enter(source)?;
         let sender = source.sender(self.connection());
-        let recipients = select(visit.state(), sender, view);
-        self.leave(visit);
+        let recipients = select(guard.state(), sender, view);
+        self.leave(guard);
         Ok(recipients)
     }
 
@@ -87,16 +87,16 @@ impl<J: Naming, M: Mailbox> Pass<J, M> {
         ensures same { self.new ≡ record self.old { seen = self.new.seen } }
     {
         lists.clear();
-        let visit = self.enter(source)?;
+        let guard = self.enter(source)?;
         let from = source.sender(self.connection());
         select_into(
-            visit.state(),
+            guard.state(),
             from,
             view,
             &mut lists.marks,
             &mut lists.recipients,
         );
-        self.leave(visit);
+        self.leave(guard);
         Ok(())
     }
 
@@ -113,9 +113,9 @@ impl<J: Naming, M: Mailbox> Pass<J, M> {
             (λ error. (error ≡ BusError.Closed) × (self.new.seen ≡ self.old.seen)) }
         ensures same { self.new ≡ record self.old { seen = self.new.seen } }
     {
-        let visit = self.enter(Source::Own)?;
-        let found = may_reach(visit.state(), view, sender);
-        self.leave(visit);
+        let guard = self.enter(Source::Own)?;
+        let found = may_reach(guard.state(), view, sender);
+        self.leave(guard);
         Ok(found)
     }
 
@@ -130,9 +130,9 @@ impl<J: Naming, M: Mailbox> Pass<J, M> {
             (λ error. (error ≡ BusError.Closed) × (self.new.seen ≡ self.old.seen)) }
         ensures same { self.new ≡ record self.old { seen = self.new.seen } }
     {
-        let visit = self.enter(Source::Own)?;
-        let found = visit.state().owner_of(name.as_str());
-        self.leave(visit);
+        let guard = self.enter(Source::Own)?;
+        let found = guard.state().owner_of(name.as_str());
+        self.leave(guard);
         Ok(found)
     }
 
@@ -147,9 +147,9 @@ impl<J: Naming, M: Mailbox> Pass<J, M> {
             (λ error. (error ≡ BusError.Closed) × (self.new.seen ≡ self.old.seen)) }
         ensures same { self.new ≡ record self.old { seen = self.new.seen } }
     {
-        let visit = self.enter(Source::Own)?;
-        let found = is_there(visit.state(), number);
-        self.leave(visit);
+        let guard = self.enter(Source::Own)?;
+        let found = is_there(guard.state(), number);
+        self.leave(guard);
         Ok(found)
     }
 }

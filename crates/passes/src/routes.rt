@@ -1,7 +1,7 @@
 // Broadcasts of a pass.
 
 ghost use Rattle.std.specs.Prelude.{◌≡◌, ◌⊎◌, [], IfErr, IfOk, OnOk, MatchResult};
-ghost use Rattle.routing.specs.Stops.{RisesFrom, AllHave, Keeps, Routed, Unrouted};
+ghost use Rattle.routing.specs.RecipientSeats.{RisesFrom, AllHave, Keeps, Routed, Unrouted};
 ghost use Rattle.passes.specs.Passes.{IsOpenTo};
 ghost use Rattle.passes.specs.Routes.{HasRouted, IsUnrouted, pass_written};
 
@@ -14,7 +14,7 @@ use arrayvec::ArrayVec;
 use bytes::Bytes;
 use fan_out::MAX_RECIPIENTS;
 use message_view::View;
-use published::Naming;
+use published::BusBrand;
 use routing::{Gate, Mailbox, OpenGate, RouteError, Sender};
 use std::alloc::{AllocError, Global};
 use std::sync::Wait;
@@ -32,7 +32,7 @@ fn route<M: Mailbox, W: Wait, G: Gate>(
 ) -> Result<(), BusError>
     requires none { refused.old.items ≡ [] }
     requires rising { RisesFrom 0 recipients.now.items }
-    requires seats { OnOk seated (AllHave recipients.now.items sender.old.stops) }
+    requires seats { OnOk seated (AllHave recipients.now.items sender.old.recipient_seats) }
     ensures keeps { Keeps [] sender.old sender.new }
     ensures ok { OnOk result (Routed bytes.now recipients.now.items refused.new.items sender.old sender.new) }
     ensures err { IfErr result (λ error. ((error ≡ BusError.NoMemory) ⊎ ((error ≡ BusError.Counts) × (sender.old.count ≡ u64.MAX))) × Unrouted sender.old sender.new) }
@@ -48,7 +48,7 @@ fn route<M: Mailbox, W: Wait, G: Gate>(
     }
 }
 
-impl<J: Naming, M: Mailbox> Pass<J, M> {
+impl<B: BusBrand, M: Mailbox> Pass<B, M> {
     /// Finds the recipients of a broadcast, leaves the published state, and puts the message into their outboxes, without
     /// any lock. The caller's lists are then of this broadcast: its recipients, and those whose outbox refused it, a shut
     /// one included. No outbox gives the message out before it was put at all of them. Nothing is written out:
@@ -93,18 +93,18 @@ impl<J: Naming, M: Mailbox> Pass<J, M> {
         ensures open { IfOk result (λ _. IsOpenTo source self.old) }
     {
         lists.clear();
-        let visit = self.enter(source)?;
+        let guard = self.enter(source)?;
         let mut sender = self.take_sender(alloc);
         let from = source.sender(self.connection());
         let seated = seat_recipients(
-            visit.state(),
+            guard.state(),
             view,
             from,
             &mut sender,
             &mut lists.marks,
             &mut lists.recipients,
         );
-        self.leave(visit);
+        self.leave(guard);
         let answer = route(
             rt,
             alloc,

@@ -6,7 +6,7 @@ ghost use Rattle.message_view.specs.Valid.{Valid};
 ghost use Rattle.program_table.specs.Connections.{is_connected};
 ghost use Rattle.passes.specs.NameOwners.{IsOwner};
 ghost use Rattle.program_table.specs.Recipients.{AreRecipients};
-ghost use Rattle.routing.specs.Stops.{RisesFrom, is_in, HasStop, AllHave};
+ghost use Rattle.routing.specs.RecipientSeats.{RisesFrom, is_in, HasSeat, AllHave};
 ghost use Rattle.passes.specs.Routes.{IsOutboxOf};
 ghost use Rattle.passes.specs.Seats.{KeepsThere, NothingPut, KeepsShut};
 
@@ -50,14 +50,14 @@ fn keep_connected<M: Mailbox>(state: &BusState<M>, sender: &mut Sender<M>)
 
 // Whether nothing has to be done: the sender has its seats, and not many others.
 fn is_ready<M: Mailbox>(state: &BusState<M>, sender: &Sender<M>, recipients: &[u64]) -> bool
-    ensures { result ≡ true → AllHave recipients.now sender.now.stops }
+    ensures { result ≡ true → AllHave recipients.now sender.now.recipient_seats }
 {
     !has_many_closed(state, sender) && has_all(sender, recipients)
 }
 
 // Whether the sender has a seat at each of these connections' outboxes.
 fn has_all<M: Mailbox>(sender: &Sender<M>, numbers: &[u64]) -> bool
-    ensures { result ≡ true → AllHave numbers.now sender.now.stops }
+    ensures { result ≡ true → AllHave numbers.now sender.now.recipient_seats }
 {
     for number in numbers {
         if !sender.has(*number) {
@@ -87,7 +87,7 @@ fn take_seat<M: Mailbox>(
     requires { is_connected number state.now.connections ≡ true }
     ensures keeps { KeepsThere M.outbox_of state.now sender.old sender.new }
     ensures put { NothingPut state.now sender.old sender.new }
-    ensures has { OnOk result (HasStop number sender.new.stops) }
+    ensures has { OnOk result (HasSeat number sender.new.recipient_seats) }
 {
     if sender.has(number) {
         return Ok(());
@@ -105,7 +105,7 @@ fn take_seats<M: Mailbox>(
     requires { (n : ℕ) → is_in n numbers.now ≡ true → is_connected n state.now.connections ≡ true }
     ensures keeps { KeepsThere M.outbox_of state.now sender.old sender.new }
     ensures put { NothingPut state.now sender.old sender.new }
-    ensures all { OnOk result (AllHave numbers.now sender.new.stops) }
+    ensures all { OnOk result (AllHave numbers.now sender.new.recipient_seats) }
 {
     for number in numbers {
         take_seat(state, sender, *number)?;
@@ -128,7 +128,7 @@ pub(crate) fn seat_recipients<'a, M: Mailbox>(
     ensures shut { KeepsShut recipients.new.items sender.old sender.new }
     ensures keeps { KeepsThere M.outbox_of state.now sender.old sender.new }
     ensures put { NothingPut state.now sender.old sender.new }
-    ensures all { OnOk result (AllHave recipients.new.items sender.new.stops) }
+    ensures all { OnOk result (AllHave recipients.new.items sender.new.recipient_seats) }
 {
     let _ = view.raw();
     select_into(state, from, view, marks, recipients);
@@ -148,7 +148,7 @@ pub(crate) fn seat_owner<M: Mailbox>(
     sender: &mut Sender<M>,
     name: &str,
 ) -> Result<Option<u64>, AllocError>
-    ensures owner { IfOk result (λ owner. MatchOption owner ((n : ℕ) → IsOwner state.now name.now n → ⊥) (λ n. IsOwner state.now name.now n × HasStop n sender.new.stops)) }
+    ensures owner { IfOk result (λ owner. MatchOption owner ((n : ℕ) → IsOwner state.now name.now n → ⊥) (λ n. IsOwner state.now name.now n × HasSeat n sender.new.recipient_seats)) }
     ensures keeps { KeepsThere M.outbox_of state.now sender.old sender.new }
     ensures put { NothingPut state.now sender.old sender.new }
 {

@@ -14,18 +14,18 @@ use bpf_verify::verify;
 use entry_table::{Attachment, RuleProgram};
 use match_rule::Rule;
 use program_table::{Command, Reply};
-use published::Naming;
+use published::BusBrand;
 use routing::Mailbox;
 use std::alloc::Global;
 use std::sync::Wait;
 use summary::Edition;
 
-impl<J: Naming, M: Mailbox, R: Wait + Drop> Control<J, M, R> {
+impl<B: BusBrand, M: Mailbox, R: Wait + Drop> Control<B, M, R> {
     /// Adds an entry with a rule (AddMatch).
     pub fn add_match(
         &mut self,
         alloc: Global,
-        pass: &mut Pass<J, M>,
+        pass: &mut Pass<B, M>,
         text: &str,
     ) -> Result<Reply, BusError>
         ensures { AddsMatch text.now pass.old self.old result pass.new self.new }
@@ -40,7 +40,7 @@ impl<J: Naming, M: Mailbox, R: Wait + Drop> Control<J, M, R> {
     fn add_rule(
         &mut self,
         alloc: Global,
-        pass: &mut Pass<J, M>,
+        pass: &mut Pass<B, M>,
         rule: Rule,
     ) -> Result<Reply, BusError>
         ensures { AddsRule rule pass.old self.old result pass.new self.new }
@@ -79,7 +79,7 @@ impl<J: Naming, M: Mailbox, R: Wait + Drop> Control<J, M, R> {
     pub fn remove_match(
         &mut self,
         alloc: Global,
-        pass: &mut Pass<J, M>,
+        pass: &mut Pass<B, M>,
         text: &str,
     ) -> Result<Reply, BusError>
         ensures { RemovesMatch text.now pass.old self.old result pass.new self.new }
@@ -97,7 +97,7 @@ impl<J: Naming, M: Mailbox, R: Wait + Drop> Control<J, M, R> {
     pub fn attach(
         &mut self,
         alloc: Global,
-        pass: &mut Pass<J, M>,
+        pass: &mut Pass<B, M>,
         edition: Edition,
         program: Vec<Ins>,
     ) -> Result<Reply, BusError>

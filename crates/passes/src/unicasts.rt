@@ -1,7 +1,7 @@
 // Unicast messages of a pass.
 
 ghost use Rattle.std.specs.Prelude.{◌≡◌, [], IfOk, IfErr, IfSome, MatchResult};
-ghost use Rattle.routing.specs.Stops.{HasStop, Keeps, Unrouted};
+ghost use Rattle.routing.specs.RecipientSeats.{HasSeat, Keeps, Unrouted};
 ghost use Rattle.passes.specs.Deliveries.{IsDelivered};
 ghost use Rattle.passes.specs.Passes.{IsOpenTo};
 ghost use Rattle.passes.specs.Unicasts.{Unicasts, IsUnsent};
@@ -11,7 +11,7 @@ use crate::pass::Pass;
 use crate::reading::Source;
 use crate::seating::seat_owner;
 use bytes::Bytes;
-use published::Naming;
+use published::BusBrand;
 use routing::{Mailbox, Sender, Sent as PutOrFull};
 use std::alloc::{AllocError, Global};
 use std::sync::Wait;
@@ -35,7 +35,7 @@ fn deliver<M: Mailbox, W: Wait>(
     seated: Result<Option<u64>, AllocError>,
     bytes: &Bytes,
 ) -> Result<Sent, BusError>
-    requires { IfOk seated (λ owner. IfSome owner (λ n. HasStop n sender.old.stops)) }
+    requires { IfOk seated (λ owner. IfSome owner (λ n. HasSeat n sender.old.recipient_seats)) }
     ensures keeps { Keeps [] sender.old sender.new }
     ensures sent { IfOk result (IsDelivered seated bytes.now sender.old sender.new) }
     ensures err { IfErr result (λ error. (error ≡ BusError.NoMemory) × Unrouted sender.old sender.new) }
@@ -52,7 +52,7 @@ fn deliver<M: Mailbox, W: Wait>(
     }
 }
 
-impl<J: Naming, M: Mailbox> Pass<J, M> {
+impl<B: BusBrand, M: Mailbox> Pass<B, M> {
     /// Finds the owner of a name, which is unique or well-known, leaves the published state, and puts the message into
     /// the owner's outbox.
     ///
@@ -71,10 +71,10 @@ impl<J: Naming, M: Mailbox> Pass<J, M> {
         ensures sent { MatchResult result (λ sent. Unicasts M.outbox_of to.now bytes.now self.old sent self.new) (λ error. IsUnsent M.outbox_of error self.old self.new) }
         ensures open { IfOk result (λ _. IsOpenTo source self.old) }
     {
-        let visit = self.enter(source)?;
+        let guard = self.enter(source)?;
         let mut sender = self.take_sender(alloc);
-        let seated = seat_owner(visit.state(), &mut sender, to);
-        self.leave(visit);
+        let seated = seat_owner(guard.state(), &mut sender, to);
+        self.leave(guard);
         let answer = deliver(rt, alloc, &mut sender, seated, bytes);
         let _ = sender.seats();
         self.put_back(sender);

@@ -16,10 +16,10 @@ use bus_messages::{BuildError, Bytes, UniqueName, name_acquired, name_lost, name
 use message_view::View;
 use outbox::Counts;
 use owners::Change;
-use router::{Mailbox, Naming, RouteLists, Source};
+use router::{BusBrand, Mailbox, RouteLists, Source};
 use std::sync::Wait;
 
-impl<B: Naming, M: Mailbox> Peer<B, M> {
+impl<B: BusBrand, M: Mailbox> Peer<B, M> {
     /// Announces that a well-known name has another owner: NameLost to the old one, NameOwnerChanged to all whose rules
     /// hold of it, NameAcquired to the new one (D-Bus Specification, "Message Bus Messages"). A caller that holds what the
     /// pass puts has them given out as one.

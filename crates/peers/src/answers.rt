@@ -16,11 +16,11 @@ use crate::peer::Peer;
 use crate::refused::Refused;
 use crate::request::Request;
 use bus_messages::{Body, Bytes, ErrorName, error, reply};
-use router::{Mailbox, Naming};
+use router::{BusBrand, Mailbox};
 use std::alloc::Global;
 use std::sync::Wait;
 
-impl<B: Naming, M: Mailbox> Peer<B, M> {
+impl<B: BusBrand, M: Mailbox> Peer<B, M> {
     /// Answers a call, if its caller waits for an answer.
     ///
     /// # Errors

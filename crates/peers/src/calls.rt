@@ -12,10 +12,10 @@ use crate::refused::Refused;
 use crate::request::Request;
 use bus_messages::{Bytes, ErrorName, Exceeded, UniqueName, error};
 use message_view::View;
-use router::{BusError, Mailbox, Naming, OpenCall, OpenCalls, Sent};
+use router::{BusBrand, BusError, Mailbox, OpenCall, OpenCalls, Sent};
 use std::sync::Wait;
 
-impl<B: Naming, M: Mailbox> Peer<B, M> {
+impl<B: BusBrand, M: Mailbox> Peer<B, M> {
     /// Passes on a stamped call. One whose caller waits for the reply is remembered, within the client's share of calls that
     /// wait; no reply comes before that.
     ///

@@ -14,7 +14,7 @@ use crate::refused::Refused;
 use crate::request::Request;
 use bus_messages::Call;
 use message_view::{Kind, View};
-use router::{Mailbox, Naming, RouteLists};
+use router::{BusBrand, Mailbox, RouteLists};
 use std::sync::Wait;
 
 /// Whether a message is a call of the bus itself.
@@ -41,7 +41,7 @@ fn is_signal(kind: Kind) -> bool
     matches!(kind, Kind::Signal)
 }
 
-impl<B: Naming, M: Mailbox> Peer<B, M> {
+impl<B: BusBrand, M: Mailbox> Peer<B, M> {
     /// Handles a message: a call of the bus is answered, a signal without destination is a broadcast, another message with
     /// a destination goes there, and all else is dropped.
     ///

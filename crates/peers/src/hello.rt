@@ -14,7 +14,7 @@ use crate::request::Request;
 use crate::serial::Serials;
 use bus_messages::{Body, ErrorName, UniqueName};
 use outbox::Item;
-use router::{Control, Mailbox, Naming, Pass, RouteLists};
+use router::{BusBrand, Control, Mailbox, Pass, RouteLists};
 use std::sync::Wait;
 
 /// Connects a pass, whose messages go to the client's outbox, under the bus's lock.
@@ -22,7 +22,7 @@ use std::sync::Wait;
 /// # Errors
 ///
 /// The bus's refusal, and `NoMemory`. Nothing is published then.
-pub fn join<B: Naming, M: Mailbox, R: Wait + Drop>(
+pub fn join<B: BusBrand, M: Mailbox, R: Wait + Drop>(
     control: &mut Control<B, M, R>,
     pass: &mut Pass<B, M>,
     own: &OwnOutbox<M>,
@@ -41,7 +41,7 @@ pub fn join<B: Naming, M: Mailbox, R: Wait + Drop>(
 /// # Errors
 ///
 /// `Slow`, and `NoMemory` if not even the error NoMemory could be built.
-pub fn put_refusal<B: Naming, M: Mailbox, W: Wait, R: Wait + Drop>(
+pub fn put_refusal<B: BusBrand, M: Mailbox, W: Wait, R: Wait + Drop>(
     context: &Context<'_, B, M, W, R>,
     own: &mut OwnOutbox<M>,
     request: Request,
@@ -63,7 +63,7 @@ pub fn put_refusal<B: Naming, M: Mailbox, W: Wait, R: Wait + Drop>(
     }
 }
 
-impl<B: Naming, M: Mailbox> Peer<B, M> {
+impl<B: BusBrand, M: Mailbox> Peer<B, M> {
     /// Answers Hello with the client's name, and announces it. Nobody gets one of these messages before all are put. The caller has
     /// held the lock of the bus since the client joined it.
     ///

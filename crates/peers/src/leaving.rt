@@ -6,7 +6,7 @@ ghost use Rattle.peers.specs.Departure.{Leaves, HasLeft, AreGivenUp, GivesUpName
 use crate::context::Context;
 use crate::peer::Peer;
 use owners::MAX_CLAIMS;
-use router::{BusError, Mailbox, NameCall, Naming, Reply, RouteLists};
+use router::{BusBrand, BusError, Mailbox, NameCall, Reply, RouteLists};
 use std::sync::Wait;
 
 /// How far a peer's leaving came.
@@ -30,7 +30,7 @@ enum Giving {
     Refused,
 }
 
-impl<B: Naming, M: Mailbox> Peer<B, M> {
+impl<B: BusBrand, M: Mailbox> Peer<B, M> {
     /// Watches the bus no more, gives up the client's names one after the other, each change announced, closes its pass, announces that its own
     /// name is gone, answers NoReply to those who wait for the client's replies, and writes out what was put. A message that
     /// memory refuses is left out.

@@ -50,6 +50,6 @@ pub use shares::Shares;
 
 // Passed on from the crates below, so that the crates above need not name those in crates.txt.
 pub use router::{
-    Bus, BusError, Capacity, Command, Control, IndexKey, Letterbox, Mailbox, Naming, Opened, Pass,
-    Published, RouteLists, Shown, StateReader,
+    Bus, BusBrand, BusError, Capacity, Command, Control, IndexKey, Mailbox, Opened, Pass,
+    PlainMailbox, Published, RouteLists, Shown, StateReader,
 };

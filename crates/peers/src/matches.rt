@@ -16,11 +16,11 @@ use crate::refused::Refused;
 use crate::request::Request;
 use bpf_code::Ins;
 use bus_messages::Body;
-use router::{BusError, Mailbox, Naming, Reply};
+use router::{BusBrand, BusError, Mailbox, Reply};
 use std::sync::Wait;
 use summary::Edition;
 
-impl<B: Naming, M: Mailbox> Peer<B, M> {
+impl<B: BusBrand, M: Mailbox> Peer<B, M> {
     pub(crate) fn add_match<W: Wait, R: Wait + Drop>(
         &mut self,
         context: &Context<'_, B, M, W, R>,

@@ -13,13 +13,13 @@ use crate::peer::Peer;
 use crate::refused::Refused;
 use crate::request::Request;
 use bus_messages::{Body, Call, ErrorName, introspection};
-use router::{Mailbox, Naming, RouteLists};
+use router::{BusBrand, Mailbox, RouteLists};
 use std::sync::Wait;
 
 /// What StartServiceByName answers of a name that has an owner (D-Bus Specification, DBUS_START_REPLY_ALREADY_RUNNING).
 const ALREADY_RUNNING: u32 = 2;
 
-impl<B: Naming, M: Mailbox> Peer<B, M> {
+impl<B: BusBrand, M: Mailbox> Peer<B, M> {
     /// Does what a call of the bus asks for, and answers it.
     ///
     /// # Errors

@@ -19,11 +19,11 @@ use crate::sending::stamp_message;
 use bus_messages::{Body, BuildError, Bytes, ErrorName, UniqueName, name_lost};
 use match_rule::Rule;
 use message_view::View;
-use router::{BusError, Mailbox, Naming, RouteLists};
+use router::{BusBrand, BusError, Mailbox, RouteLists};
 use std::alloc::Global;
 use std::sync::Wait;
 
-impl<B: Naming, M: Mailbox> Peer<B, M> {
+impl<B: BusBrand, M: Mailbox> Peer<B, M> {
     /// Shows a message of the client to those who watch, stamped with the client's name, before it is handled. One that can't
     /// be stamped isn't shown.
     pub fn show<W: Wait, R: Wait + Drop>(

@@ -13,11 +13,11 @@ use crate::refused::Refused;
 use crate::request::Request;
 use bus_messages::{Body, ErrorName};
 use owners::{Change, WellKnown};
-use router::{BusError, Control, Mailbox, NameCall, Naming, Reply, RouteLists};
+use router::{BusBrand, BusError, Control, Mailbox, NameCall, Reply, RouteLists};
 use std::mem;
 use std::sync::Wait;
 
-impl<B: Naming, M: Mailbox> Peer<B, M> {
+impl<B: BusBrand, M: Mailbox> Peer<B, M> {
     pub(crate) fn request_name<W: Wait, R: Wait + Drop>(
         &mut self,
         context: &Context<'_, B, M, W, R>,

@@ -11,7 +11,7 @@ use crate::peer::Peer;
 use crate::refused::Refused;
 use bus_messages::{ErrorName, UniqueName};
 use owners::WellKnown;
-use router::{Mailbox, Naming};
+use router::{BusBrand, Mailbox};
 use signature::check_bus_name;
 
 /// A name's owner. The bus owns its own name, and each connected unique name owns itself.
@@ -48,7 +48,7 @@ impl AskedName {
     }
 }
 
-impl<B: Naming, M: Mailbox> Peer<B, M> {
+impl<B: BusBrand, M: Mailbox> Peer<B, M> {
     /// The owner of the name that a text is, or why that can't be told.
     pub(crate) fn owner_named(&mut self, text: &str) -> Result<Option<Owner>, Refused>
         ensures owner { IsOwnerOf (after self.new.pass.seen) text.now result }

@@ -11,7 +11,7 @@ use crate::own_outbox::OwnOutbox;
 use crate::serial::Serials;
 use bus_messages::UniqueName;
 use crossbeam_utils::rule::Protocol;
-use router::{Command, Mailbox, Naming, Pass, Published, Shown, StateReader};
+use router::{BusBrand, Command, Mailbox, Pass, Published, Shown, StateReader};
 use std::alloc::Global;
 use std::collections::LinkedList;
 use std::marker::Model;
@@ -21,7 +21,7 @@ use std::sync::{Arc, Wait};
 /// the bus has put to the client itself, the serial of the next message that the bus makes for it, what it is told of the
 /// bus, and what it has taken of the bus.
 #[derive(Drop)]
-pub struct Peer<B: Naming, M: Mailbox>
+pub struct Peer<B: BusBrand, M: Mailbox>
 where
     Published: Protocol<Shown<B, M>, LinkedList<Command<M>>>,
 {
@@ -36,7 +36,7 @@ where
     pub(crate) was_heard: bool,
 }
 
-impl<B: Naming, M: Mailbox> Model for Peer<B, M>
+impl<B: BusBrand, M: Mailbox> Model for Peer<B, M>
 where
     Published: Protocol<Shown<B, M>, LinkedList<Command<M>>>,
 {
@@ -51,7 +51,7 @@ where
     ghost invariant = { λ p. p.name ≡ p.pass.connection };
 }
 
-impl<B: Naming, M: Mailbox> Peer<B, M> {
+impl<B: BusBrand, M: Mailbox> Peer<B, M> {
     /// The peer of a pass that is connected, named by its number. It has taken nothing yet.
     pub fn new(alloc: Global, pass: Pass<B, M>, own: OwnOutbox<M>, identity: Identity) -> Peer<B, M>
         ensures { result ≡ record { pass = pass; own = own; serial = 1; identity = identity; holdings = nothing_held } }

@@ -24,11 +24,11 @@ use crate::refused::Refused;
 use crate::request::Request;
 use bus_messages::{Body, ErrorName, UniqueName};
 use owners::WellKnown;
-use router::{Mailbox, Naming};
+use router::{BusBrand, Mailbox};
 use std::alloc::{AllocError, Global};
 use std::sync::Wait;
 
-impl<B: Naming, M: Mailbox> Peer<B, M> {
+impl<B: BusBrand, M: Mailbox> Peer<B, M> {
     pub(crate) fn get_name_owner<W: Wait, R: Wait + Drop>(
         &mut self,
         context: &Context<'_, B, M, W, R>,

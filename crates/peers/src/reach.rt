@@ -7,10 +7,10 @@ use crate::context::Context;
 use crate::peer::Peer;
 use message_view::View;
 use outbox::Counts;
-use router::{Mailbox, Naming};
+use router::{BusBrand, Mailbox};
 use std::sync::Wait;
 
-impl<B: Naming, M: Mailbox> Peer<B, M> {
+impl<B: BusBrand, M: Mailbox> Peer<B, M> {
     /// Whether this message, stamped with the client's name, is for nobody, after a history that begins with what the pass had
     /// seen, and is seen then. Most broadcasts are, and needn't be stamped. If the bus doesn't tell, or somebody watches it, the
     /// answer is false; also where the client's last broadcast was for somebody, since a look is then most often in vain.

@@ -20,11 +20,11 @@ use bus_messages::{Bytes, ErrorName, Exceeded, UniqueName};
 use message_build::{StampError, stamp};
 use message_view::{Kind, View};
 use outbox::Counts;
-use router::{BusError, Mailbox, Naming, RouteLists, Sent, Source};
+use router::{BusBrand, BusError, Mailbox, RouteLists, Sent, Source};
 use std::alloc::Global;
 use std::sync::Wait;
 
-impl<B: Naming, M: Mailbox> Peer<B, M> {
+impl<B: BusBrand, M: Mailbox> Peer<B, M> {
     /// Passes on a signal without destination, stamped with the client's name, to its recipients. Most broadcasts are for
     /// nobody, and aren't even stamped, unless somebody watches the bus. One that would be above the limits with its sender is dropped.
     ///

@@ -12,7 +12,7 @@ use crate::refused::Refused;
 use crate::request::Request;
 use bus_messages::{Body, ErrorName, Fact, NamedFact, TextList, UniqueName};
 use outbox::{Counts, Room};
-use router::{Bus, Control, Mailbox, Naming};
+use router::{Bus, BusBrand, Control, Mailbox};
 use rule_text::rule_text;
 use std::alloc::{AllocError, Global};
 use std::sync::Wait;
@@ -55,7 +55,7 @@ impl Stats {
 }
 
 /// How many connections there are, and what is known of all of them, and of those that have left.
-fn stats_of_all<B: Naming, M: Mailbox, W: Wait, R: Wait + Drop>(
+fn stats_of_all<B: BusBrand, M: Mailbox, W: Wait, R: Wait + Drop>(
     rt: &W,
     alloc: Global,
     bus: &Bus<B, M, R>,
@@ -88,7 +88,7 @@ fn stats_of_all<B: Naming, M: Mailbox, W: Wait, R: Wait + Drop>(
 }
 
 /// What is known of one connection, unless it has gone.
-fn stats_of<B: Naming, M: Mailbox, R: Wait + Drop>(
+fn stats_of<B: BusBrand, M: Mailbox, R: Wait + Drop>(
     alloc: Global,
     control: &Control<B, M, R>,
     number: u64,
@@ -116,7 +116,7 @@ fn stats_of<B: Naming, M: Mailbox, R: Wait + Drop>(
 }
 
 /// The numbers of all connections, rising.
-fn numbers<B: Naming, M: Mailbox, R: Wait + Drop>(
+fn numbers<B: BusBrand, M: Mailbox, R: Wait + Drop>(
     alloc: Global,
     control: &Control<B, M, R>,
 ) -> Result<Vec<u64>, AllocError> {
@@ -129,7 +129,7 @@ fn numbers<B: Naming, M: Mailbox, R: Wait + Drop>(
 }
 
 /// The rules of a connection as texts, the oldest first.
-fn rules_of<B: Naming, M: Mailbox, W: Wait, R: Wait + Drop>(
+fn rules_of<B: BusBrand, M: Mailbox, W: Wait, R: Wait + Drop>(
     rt: &W,
     alloc: Global,
     bus: &Bus<B, M, R>,
@@ -146,7 +146,7 @@ fn rules_of<B: Naming, M: Mailbox, W: Wait, R: Wait + Drop>(
 }
 
 /// The rules of all connections. The lock of the bus is taken for each of them anew.
-fn rules_of_all<B: Naming, M: Mailbox, W: Wait, R: Wait + Drop>(
+fn rules_of_all<B: BusBrand, M: Mailbox, W: Wait, R: Wait + Drop>(
     rt: &W,
     alloc: Global,
     bus: &Bus<B, M, R>,
@@ -159,7 +159,7 @@ fn rules_of_all<B: Naming, M: Mailbox, W: Wait, R: Wait + Drop>(
     Ok(lists)
 }
 
-impl<B: Naming, M: Mailbox> Peer<B, M> {
+impl<B: BusBrand, M: Mailbox> Peer<B, M> {
     pub(crate) fn get_stats<W: Wait, R: Wait + Drop>(
         &mut self,
         context: &Context<'_, B, M, W, R>,

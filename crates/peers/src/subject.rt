@@ -12,9 +12,9 @@ use crate::owner::Owner;
 use crate::peer::Peer;
 use match_rule::arg0_of;
 use message_view::View;
-use router::{Mailbox, Naming};
+use router::{BusBrand, Mailbox};
 
-impl<B: Naming, M: Mailbox> Peer<B, M> {
+impl<B: BusBrand, M: Mailbox> Peer<B, M> {
     /// The connection that a call of the bus is about: another than the client's own, which owns the name that is the call's
     /// first argument, whatever its method is. `None` of any other message, and where the bus doesn't tell.
     pub fn subject_of(&mut self, view: &View<'_>) -> Option<u64>

@@ -59,13 +59,13 @@ impl<M: Handle> Plain<Command<M>, Command<M>, u64> for Add {
 }
 
 /// Which history it is, told by a type. Each call of a program picks one.
-pub trait Naming {
+pub trait BusBrand {
     ghost use Rattle.logbook.specs.Pages.{Book};
 
     ghost book: { Book };
 }
 
-impl Naming for Brand {
+impl BusBrand for Brand {
     ghost book = { record { number = 0; log_name = 0; cells_name = 0 } };
 }
 
@@ -105,8 +105,8 @@ impl<M: Handle> Opened<M> {
     }
 
     /// The history's word under a name, and the beginning that has no command.
-    pub(crate) fn open_named<J: Naming>(self) -> (Book<J, M>, Front<J, M>)
-        requires { self ≡ J.book }
+    pub(crate) fn open_named<B: BusBrand>(self) -> (Book<B, M>, HistoryPrefix<B, M>)
+        requires { self ≡ B.book }
         ensures { result.1 ≡ [] }
     {
         let Opened { head, seen } = self;
@@ -115,7 +115,7 @@ impl<M: Handle> Opened<M> {
                 head,
                 of: PhantomData,
             },
-            Front {
+            HistoryPrefix {
                 count: 0,
                 seen,
                 of: PhantomData,
@@ -126,15 +126,15 @@ impl<M: Handle> Opened<M> {
 
 /// The word that holds the length of the history.
 #[derive(Drop)]
-pub struct Book<J: Naming, M: Handle>
+pub struct Book<B: BusBrand, M: Handle>
 where
     Law: Rule<Command<M>, u64>,
 {
     head: Word<Command<M>, u64, Law>,
-    of: PhantomData<J>,
+    of: PhantomData<B>,
 }
 
-impl<J: Naming, M: Handle> Model for Book<J, M>
+impl<B: BusBrand, M: Handle> Model for Book<B, M>
 where
     Law: Rule<Command<M>, u64>,
 {
@@ -146,21 +146,21 @@ where
 
     ghost view = { λ b. b.head };
 
-    ghost invariant = { λ b. b.head ≡ head_of J.book };
+    ghost invariant = { λ b. b.head ≡ head_of B.book };
 }
 
 /// A beginning of the history, which was seen. Contracts see it as its commands.
 #[derive(Drop)]
-pub struct Front<J: Naming, M: Handle>
+pub struct HistoryPrefix<B: BusBrand, M: Handle>
 where
     Law: Rule<Command<M>, u64>,
 {
     count: u64,
     seen: Seen<Command<M>, u64, Law>,
-    of: PhantomData<J>,
+    of: PhantomData<B>,
 }
 
-impl<J: Naming, M: Handle> Model for Front<J, M>
+impl<B: BusBrand, M: Handle> Model for HistoryPrefix<B, M>
 where
     Law: Rule<Command<M>, u64>,
 {
@@ -172,10 +172,10 @@ where
 
     ghost view = { λ f. f.seen.log };
 
-    ghost invariant = { λ f. (f.count ≡ length f.seen.log) × (f.seen.book ≡ J.book) × IsHistory f.seen.log };
+    ghost invariant = { λ f. (f.count ≡ length f.seen.log) × (f.seen.book ≡ B.book) × IsHistory f.seen.log };
 }
 
-impl<J: Naming, M: Handle> Front<J, M> {
+impl<B: BusBrand, M: Handle> HistoryPrefix<B, M> {
     /// How many commands it has.
     pub fn len(&self) -> u64
         ensures length { result ≡ length self.now }
@@ -192,11 +192,11 @@ impl<J: Naming, M: Handle> Front<J, M> {
     }
 
     /// A copy. It takes no memory.
-    pub fn again(&self) -> Front<J, M>
+    pub fn again(&self) -> HistoryPrefix<B, M>
         ensures copy { result ≡ self.now }
         ensures history { IsHistory result }
     {
-        Front {
+        HistoryPrefix {
             count: self.count,
             seen: self.seen.again(),
             of: PhantomData,
@@ -204,7 +204,7 @@ impl<J: Naming, M: Handle> Front<J, M> {
     }
 
     /// Shows that the other, which is no shorter, begins with this one. Nothing is done at run time.
-    pub fn begins(&self, other: &Front<J, M>)
+    pub fn begins(&self, other: &HistoryPrefix<B, M>)
         requires { length self.now ≤ length other.now }
         ensures { IsPrefix self.now other.now }
     {
@@ -213,7 +213,7 @@ impl<J: Naming, M: Handle> Front<J, M> {
     }
 
     /// Adds an accepted command, and says whether it did. It did not where the history is longer.
-    pub(crate) fn add(&mut self, book: &Book<J, M>, command: &Command<M>) -> bool
+    pub(crate) fn add(&mut self, book: &Book<B, M>, command: &Command<M>) -> bool
         requires { is_accepted (after self.old) command.now ≡ true }
         ensures { MatchBool result (self.new ≡ self.old ++ command.now ∷ []) (IsLonger self.old self.new) }
     {

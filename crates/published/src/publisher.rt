@@ -10,9 +10,9 @@ ghost use Rattle.published.specs.ErrorName.{publish_error_name};
 ghost use Rattle.published.specs.Publication.{Publication, nothing_published, with_next};
 ghost use Rattle.published.specs.Steps.{Continues};
 
-use crate::history::{Book, Front, Law, Naming, Opened};
+use crate::history::{Book, BusBrand, HistoryPrefix, Law, Opened};
+use crate::history_reader::{HistoryReader, StateReader};
 use crate::shown::{Entry, Notes, Published, Sees, Shown};
-use crate::sight::{Sight, StateReader};
 use core::mem::replace_with;
 use crossbeam_utils::rule::Protocol;
 use entry_table::IndexKey;
@@ -61,32 +61,32 @@ impl fmt::Display for PublishError {
 
 impl Error for PublishError {}
 
-type ShownWriter<J, M> = Writer<
-    Shown<J, M>,
-    Entry<J, M>,
+type ShownWriter<B, M> = Writer<
+    Shown<B, M>,
+    Entry<B, M>,
     LinkedList<Command<M>>,
     Published,
     Global,
 >;
 
 /// The writer, with the history that it has published and whether the bus has ended.
-pub struct Publisher<J: Naming, M: Handle, R: Wait + Drop>
+pub struct Publisher<B: BusBrand, M: Handle, R: Wait + Drop>
 where
-    Published: Protocol<Shown<J, M>, LinkedList<Command<M>>>,
-    Shown<J, M>: Absorb<Entry<J, M>, State = LinkedList<Command<M>>>,
+    Published: Protocol<Shown<B, M>, LinkedList<Command<M>>>,
+    Shown<B, M>: Absorb<Entry<B, M>, State = LinkedList<Command<M>>>,
     Law: Rule<Command<M>, u64>,
 {
-    writer: ShownWriter<J, M>,
+    writer: ShownWriter<B, M>,
     // Kept for the end, which waits for the readers.
     rt: R,
-    book: Book<J, M>,
+    book: Book<B, M>,
     has_ended: bool,
 }
 
-impl<J: Naming, M: Handle, R: Wait + Drop> Model for Publisher<J, M, R>
+impl<B: BusBrand, M: Handle, R: Wait + Drop> Model for Publisher<B, M, R>
 where
-    Published: Protocol<Shown<J, M>, LinkedList<Command<M>>>,
-    Shown<J, M>: Absorb<Entry<J, M>, State = LinkedList<Command<M>>>,
+    Published: Protocol<Shown<B, M>, LinkedList<Command<M>>>,
+    Shown<B, M>: Absorb<Entry<B, M>, State = LinkedList<Command<M>>>,
     Law: Rule<Command<M>, u64>,
 {
     ghost use Rattle.std.specs.Prelude.{◌≡◌, false, [], drop};
@@ -101,10 +101,10 @@ where
 }
 
 // Publishes the entries that were appended.
-fn publish_log<J: Naming, M: Handle, R: Wait>(
-    writer: ShownWriter<J, M>,
+fn publish_log<B: BusBrand, M: Handle, R: Wait>(
+    writer: ShownWriter<B, M>,
     rt: &R,
-) -> (ShownWriter<J, M>, Result<(), AllocError>)
+) -> (ShownWriter<B, M>, Result<(), AllocError>)
     requires { Continues writer.desk.shown.value (drop writer.behind writer.log.items) }
     ensures values { MatchResult result.1
         (λ _. (result.0.desk.shown.value ≡ fold (λ before after. after) writer.desk.shown.value (drop writer.behind writer.log.items)) × (drop result.0.behind result.0.log.items ≡ []))
@@ -115,11 +115,11 @@ fn publish_log<J: Naming, M: Handle, R: Wait>(
 }
 
 // Publishes an entry. At an error what is published is what it was.
-fn write<J: Naming, M: Handle, R: Wait>(
-    mut writer: ShownWriter<J, M>,
-    entry: Entry<J, M>,
+fn write<B: BusBrand, M: Handle, R: Wait>(
+    mut writer: ShownWriter<B, M>,
+    entry: Entry<B, M>,
     rt: &R,
-) -> (ShownWriter<J, M>, Result<(), AllocError>)
+) -> (ShownWriter<B, M>, Result<(), AllocError>)
     requires pending { drop writer.behind writer.log.items ≡ [] }
     requires begins { IsPrefix writer.desk.shown.value entry }
     ensures values { MatchResult result.1
@@ -134,10 +134,10 @@ fn write<J: Naming, M: Handle, R: Wait>(
 }
 
 // Publishes the history as it is, in an entry without a command.
-fn write_blank<J: Naming, M: Handle, R: Wait>(
-    writer: ShownWriter<J, M>,
+fn write_blank<B: BusBrand, M: Handle, R: Wait>(
+    writer: ShownWriter<B, M>,
     rt: &R,
-) -> Result<ShownWriter<J, M>, AllocError>
+) -> Result<ShownWriter<B, M>, AllocError>
     requires pending { drop writer.behind writer.log.items ≡ [] }
     requires view { view writer.desk.place ≡ writer.desk.shown.value }
     ensures { IfOk result (λ w. (w.desk.shown.value ≡ writer.desk.shown.value) × (drop w.behind w.log.items ≡ []) × (view w.desk.place ≡ w.desk.shown.value)) }
@@ -153,7 +153,7 @@ fn write_blank<J: Naming, M: Handle, R: Wait>(
     }
 }
 
-impl<J: Naming, M: Handle, R: Wait + Drop> Publisher<J, M, R> {
+impl<B: BusBrand, M: Handle, R: Wait + Drop> Publisher<B, M, R> {
     /// An opened history and the opening state, with room for this many readers. The key is that of the state's index
     /// of entries.
     pub fn new(
@@ -162,12 +162,12 @@ impl<J: Naming, M: Handle, R: Wait + Drop> Publisher<J, M, R> {
         key: IndexKey,
         opened: Opened<M>,
         readers: usize,
-    ) -> Result<Publisher<J, M, R>, AllocError>
-        requires name { opened ≡ J.book }
+    ) -> Result<Publisher<B, M, R>, AllocError>
+        requires name { opened ≡ B.book }
         requires readers { (0 < readers) × (readers < 2 ^ 32) }
         ensures { IfOk result (λ publisher. publisher ≡ nothing_published) }
     {
-        let (book, front) = opened.open_named::<J>();
+        let (book, front) = opened.open_named::<B>();
         let first = Shown::new(alloc, key, front.again())?;
         let second = Shown::new(alloc, key, front)?;
         // The log never has more than two entries, and after these two it has room for them.
@@ -182,7 +182,7 @@ impl<J: Naming, M: Handle, R: Wait + Drop> Publisher<J, M, R> {
     }
 
     // Publishes one entry. At an error what is published is what it was, and the bus has ended.
-    fn publish_entry(&mut self, entry: Entry<J, M>) -> Result<(), AllocError>
+    fn publish_entry(&mut self, entry: Entry<B, M>) -> Result<(), AllocError>
         requires not_ended { self.old.has_ended ≡ false }
         requires begins { IsPrefix self.old.history entry }
         ensures { MatchResult result
@@ -193,7 +193,7 @@ impl<J: Naming, M: Handle, R: Wait + Drop> Publisher<J, M, R> {
         let written = replace_with(
             &mut self.writer,
             (entry, &self.rt),
-            |writer, front_and_entry| -> (ShownWriter<J, M>, Result<(), AllocError>)
+            |writer, front_and_entry| -> (ShownWriter<B, M>, Result<(), AllocError>)
                 requires pending { drop writer.behind writer.log.items ≡ [] }
                 requires begins { IsPrefix writer.desk.shown.value front_and_entry.0 }
                 ensures values { MatchResult result.1
@@ -247,7 +247,7 @@ impl<J: Naming, M: Handle, R: Wait + Drop> Publisher<J, M, R> {
     }
 
     /// The published history.
-    pub fn front(&self) -> Front<J, M>
+    pub fn front(&self) -> HistoryPrefix<B, M>
         ensures { result ≡ self.now.history }
     {
         self.writer.published().front()
@@ -276,7 +276,7 @@ impl<J: Naming, M: Handle, R: Wait + Drop> Publisher<J, M, R> {
     }
 
     /// The published history. None where it has fewer commands than what was seen, as no history of this bus has.
-    pub fn tell(&self, seen: &Front<J, M>) -> Option<Front<J, M>>
+    pub fn tell(&self, seen: &HistoryPrefix<B, M>) -> Option<HistoryPrefix<B, M>>
         ensures { MatchOption result (length self.now.history < length seen.now) (λ told_history. (told_history ≡ self.now.history) × IsPrefix seen.now told_history) }
     {
         let told_history = self.front();
@@ -288,7 +288,7 @@ impl<J: Naming, M: Handle, R: Wait + Drop> Publisher<J, M, R> {
     }
 
     /// A new reader, which is told the published history. `None` where all places of readers are in use.
-    pub fn reader(&mut self) -> Option<StateReader<J, M>>
+    pub fn reader(&mut self) -> Option<StateReader<B, M>>
         ensures same { self.new ≡ self.old }
         ensures up_to_date { IfSome result (λ reader. view reader.reader.place ≡ self.old.history) }
     {
@@ -301,26 +301,26 @@ impl<J: Naming, M: Handle, R: Wait + Drop> Publisher<J, M, R> {
     }
 
     /// The published history as it is seen by a new reader. `None` where all places of readers are in use.
-    pub fn sight(&mut self) -> Option<Sight<J, M>>
+    pub fn history_reader(&mut self) -> Option<HistoryReader<B, M>>
         ensures same { self.new ≡ self.old }
-        ensures seen { IfSome result (λ sight. sight ≡ self.old.history) }
+        ensures seen { IfSome result (λ history_reader. history_reader ≡ self.old.history) }
     {
         let reader = self.reader()?;
-        Some(Sight::new(reader, self.writer.published().front()))
+        Some(HistoryReader::new(reader, self.writer.published().front()))
     }
 
     /// The published history as it is seen without a reader, until one is lent.
-    pub fn sight_without_reader(&self) -> Sight<J, M>
+    pub fn sight_without_reader(&self) -> HistoryReader<B, M>
         ensures { result ≡ self.now.history }
     {
-        Sight::without_reader(self.front())
+        HistoryReader::without_reader(self.front())
     }
 }
 
-impl<J: Naming, M: Handle, R: Wait + Drop> Drop for Publisher<J, M, R>
+impl<B: BusBrand, M: Handle, R: Wait + Drop> Drop for Publisher<B, M, R>
 where
-    Published: Protocol<Shown<J, M>, LinkedList<Command<M>>>,
-    Shown<J, M>: Absorb<Entry<J, M>, State = LinkedList<Command<M>>>,
+    Published: Protocol<Shown<B, M>, LinkedList<Command<M>>>,
+    Shown<B, M>: Absorb<Entry<B, M>, State = LinkedList<Command<M>>>,
     Law: Rule<Command<M>, u64>,
 {
     fn drop(self) {

@@ -4,7 +4,7 @@ ghost use Rattle.std.specs.Prelude.{◌≡◌, ◌++◌, ◌∷◌, [], true, If
 ghost use Rattle.program_table.specs.Does.{is_accepted};
 ghost use Rattle.program_table.specs.History.{after, IsHistory};
 
-use crate::history::{Book, Front, Naming};
+use crate::history::{Book, BusBrand, HistoryPrefix};
 use atomic_table::{Join, Split};
 use crossbeam_utils::rule::{Outcome, Protocol};
 use entry_table::IndexKey;
@@ -16,12 +16,12 @@ use std::marker::Model;
 
 /// The state with the history that it comes of. Contracts see it as the history.
 #[derive(Drop)]
-pub struct Shown<J: Naming, M: Handle> {
+pub struct Shown<B: BusBrand, M: Handle> {
     state: BusState<M>,
-    front: Front<J, M>,
+    front: HistoryPrefix<B, M>,
 }
 
-impl<J: Naming, M: Handle> Model for Shown<J, M> {
+impl<B: BusBrand, M: Handle> Model for Shown<B, M> {
     ghost use Rattle.std.specs.Prelude.{◌≡◌, List};
     ghost use Rattle.program_table.specs.declared.command.Command.{Command};
     ghost use Rattle.program_table.specs.History.{after};
@@ -33,9 +33,13 @@ impl<J: Naming, M: Handle> Model for Shown<J, M> {
     ghost invariant = { λ s. s.state ≡ after s.front };
 }
 
-impl<J: Naming, M: Handle> Shown<J, M> {
+impl<B: BusBrand, M: Handle> Shown<B, M> {
     /// The opening state. The key is that of its index of entries.
-    pub fn new(alloc: Global, key: IndexKey, front: Front<J, M>) -> Result<Shown<J, M>, AllocError>
+    pub fn new(
+        alloc: Global,
+        key: IndexKey,
+        front: HistoryPrefix<B, M>,
+    ) -> Result<Shown<B, M>, AllocError>
         requires { front ≡ [] }
         ensures { IfOk result (λ shown. shown ≡ []) }
     {
@@ -46,7 +50,7 @@ impl<J: Naming, M: Handle> Shown<J, M> {
     }
 
     /// The history.
-    pub fn front(&self) -> Front<J, M>
+    pub fn front(&self) -> HistoryPrefix<B, M>
         ensures copy { result ≡ self.now }
         ensures history { IsHistory result }
     {
@@ -54,7 +58,7 @@ impl<J: Naming, M: Handle> Shown<J, M> {
     }
 
     // Shows that a history as long as this one is this one. Nothing is done at run time.
-    fn hold(&self, front: &Front<J, M>) -> Result<(), AllocError>
+    fn hold(&self, front: &HistoryPrefix<B, M>) -> Result<(), AllocError>
         ensures { IfOk result (λ _. front.now ≡ self.now) }
     {
         if self.front.len() != front.len() {
@@ -77,12 +81,12 @@ impl<J: Naming, M: Handle> Shown<J, M> {
 /// A history that is to be published, with its last command. One without a command changes nothing: it makes room for
 /// others in the writer's log. Contracts see it as the history.
 #[derive(Drop)]
-pub struct Entry<J: Naming, M: Handle> {
+pub struct Entry<B: BusBrand, M: Handle> {
     command: Option<Command<M>>,
-    front: Front<J, M>,
+    front: HistoryPrefix<B, M>,
 }
 
-impl<J: Naming, M: Handle> Model for Entry<J, M> {
+impl<B: BusBrand, M: Handle> Model for Entry<B, M> {
     ghost use Rattle.std.specs.Prelude.{List};
     ghost use Rattle.program_table.specs.declared.command.Command.{Command};
     ghost use Rattle.published.specs.Steps.{EndsWith};
@@ -94,9 +98,9 @@ impl<J: Naming, M: Handle> Model for Entry<J, M> {
     ghost invariant = { λ e. EndsWith e.front e.command };
 }
 
-impl<J: Naming, M: Handle> Entry<J, M> {
+impl<B: BusBrand, M: Handle> Entry<B, M> {
     /// An entry without a command.
-    pub fn blank(front: Front<J, M>) -> Entry<J, M>
+    pub fn blank(front: HistoryPrefix<B, M>) -> Entry<B, M>
         ensures { result ≡ front }
     {
         Entry {
@@ -108,10 +112,10 @@ impl<J: Naming, M: Handle> Entry<J, M> {
     /// An entry with a command, which becomes part of the history here. `None` where the history is longer than
     /// `front`.
     pub fn new(
-        mut front: Front<J, M>,
-        book: &Book<J, M>,
+        mut front: HistoryPrefix<B, M>,
+        book: &Book<B, M>,
         command: Command<M>,
-    ) -> Option<Entry<J, M>>
+    ) -> Option<Entry<B, M>>
         requires { is_accepted (after front) command ≡ true }
         ensures { IfSome result (λ entry. entry ≡ front ++ command ∷ []) }
     {
@@ -125,7 +129,7 @@ impl<J: Naming, M: Handle> Entry<J, M> {
     }
 }
 
-impl<J: Naming, M: Handle> Absorb<Entry<J, M>> for Shown<J, M> {
+impl<B: BusBrand, M: Handle> Absorb<Entry<B, M>> for Shown<B, M> {
     type State = LinkedList<Command<M>>;
 
     ghost state = { λ shown. shown };
@@ -135,8 +139,8 @@ impl<J: Naming, M: Handle> Absorb<Entry<J, M>> for Shown<J, M> {
     // Refuses an entry that isn't the next one. None such is published.
     fn absorb_first(
         &mut self,
-        entry: &Entry<J, M>,
-        _other: &Shown<J, M>,
+        entry: &Entry<B, M>,
+        _other: &Shown<B, M>,
     ) -> Result<(), AllocError> {
         let Some(command) = &entry.command else {
             return self.hold(&entry.front);
@@ -154,7 +158,7 @@ impl<J: Naming, M: Handle> Absorb<Entry<J, M>> for Shown<J, M> {
 /// The rule: each view begins the published history.
 pub struct Published;
 
-impl<J: Naming, M: Handle> Protocol<Shown<J, M>, LinkedList<Command<M>>> for Published {
+impl<B: BusBrand, M: Handle> Protocol<Shown<B, M>, LinkedList<Command<M>>> for Published {
     ghost use Rattle.published.specs.Publishing.{Keeps};
     ghost use Rattle.std.specs.Prelude.{[]};
 
@@ -166,7 +170,7 @@ impl<J: Naming, M: Handle> Protocol<Shown<J, M>, LinkedList<Command<M>>> for Pub
 /// A step after which the published history is seen.
 pub struct Sees;
 
-impl<J: Naming, M: Handle> Outcome<Shown<J, M>, LinkedList<Command<M>>> for Sees {
+impl<B: BusBrand, M: Handle> Outcome<Shown<B, M>, LinkedList<Command<M>>> for Sees {
     ghost use Rattle.published.specs.Steps.{Shows};
 
     ghost then = { Shows };

@@ -14,8 +14,8 @@ use open_calls::{OpenCall, OpenCalls, Shards};
 use outbox::Tally;
 use owners::WellKnown;
 use passes::{
-    BusError, Capacity, Control, Front, IndexKey, KeptPasses, Mailbox, Naming, Opened, Pass, Reply,
-    StateReader,
+    BusBrand, BusError, Capacity, Control, HistoryPrefix, IndexKey, KeptPasses, Mailbox, Opened,
+    Pass, Reply, StateReader,
 };
 use std::alloc::Global;
 use std::sync::{Mutex, MutexGuard, Wait};
@@ -26,7 +26,7 @@ const READERS: usize = 512;
 
 /// A bus, which threads share.
 #[derive(Drop)]
-pub struct Bus<B: Naming, M: Mailbox, R: Wait + Drop> {
+pub struct Bus<B: BusBrand, M: Mailbox, R: Wait + Drop> {
     control: Mutex<Control<B, M, R>>,
     kept: Mutex<KeptPasses<B, M>>,
     // The calls that went through and wait for their replies.
@@ -37,7 +37,7 @@ pub struct Bus<B: Naming, M: Mailbox, R: Wait + Drop> {
     gone: Tally,
 }
 
-impl<B: Naming, M: Mailbox, R: Wait + Drop> Bus<B, M, R> {
+impl<B: BusBrand, M: Mailbox, R: Wait + Drop> Bus<B, M, R> {
     /// A bus of the standard capacity, to which nobody is connected. The key is that of its index of entries.
     pub fn new(
         rt: R,
@@ -166,7 +166,11 @@ impl<B: Naming, M: Mailbox, R: Wait + Drop> Bus<B, M, R> {
     }
 
     /// Tells the published history, which begins with what the pass had seen, and is seen then.
-    pub fn tell(&self, rt: &impl Wait, pass: &mut Pass<B, M>) -> Result<Front<B, M>, BusError>
+    pub fn tell(
+        &self,
+        rt: &impl Wait,
+        pass: &mut Pass<B, M>,
+    ) -> Result<HistoryPrefix<B, M>, BusError>
         ensures { Once (λ before next. MatchResult result
             (λ told_history. (told_history ≡ before.history) × IsPrefix pass.old.seen told_history × (pass.new ≡ record pass.old { seen = told_history }))
             (λ error. (error ≡ BusError.Closed) × (length before.history < length pass.old.seen) × (pass.new ≡ pass.old))) }

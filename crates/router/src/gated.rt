@@ -8,12 +8,12 @@ use crate::bus::Bus;
 use arrayvec::ArrayVec;
 use bytes::Bytes;
 use message_view::View;
-use passes::{BusError, MAX_RECIPIENTS, Mailbox, Naming, Pass, RouteLists, Source};
+use passes::{BusBrand, BusError, MAX_RECIPIENTS, Mailbox, Pass, RouteLists, Source};
 use routing::Gate;
 use std::alloc::Global;
 use std::sync::Wait;
 
-impl<B: Naming, M: Mailbox, R: Wait + Drop> Bus<B, M, R> {
+impl<B: BusBrand, M: Mailbox, R: Wait + Drop> Bus<B, M, R> {
     /// Routes as `route` does. `gate.before(0)` is called once the published state is left and the seats are there,
     /// before the first put, and `gate.after(0)` after the last.
     pub fn route_gated<W: Wait, G: Gate>(

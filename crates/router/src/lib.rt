@@ -5,19 +5,19 @@
 
 mod bus;
 mod gated;
-mod letterbox;
+mod plain_mailbox;
 mod routes;
 mod unicasts;
 mod watching;
 
 pub use bus::Bus;
-pub use letterbox::Letterbox;
 pub use monitors::Monitors;
 pub use open_calls::{OpenCall, OpenCalls};
 pub use passes::{BusError, Control, NameCall, Pass, RouteLists, Sent, Source};
+pub use plain_mailbox::PlainMailbox;
 
 // Passed on from the crates below, so that the crates above need not name those in crates.txt.
 pub use passes::{
-    Capacity, Command, IndexKey, Mailbox, Naming, Opened, Published, Refusal, Reply, Shown,
+    BusBrand, Capacity, Command, IndexKey, Mailbox, Opened, Published, Refusal, Reply, Shown,
     StateReader,
 };

@@ -8,11 +8,11 @@ use crate::bus::Bus;
 use arrayvec::ArrayVec;
 use bytes::Bytes;
 use message_view::View;
-use passes::{BusError, MAX_RECIPIENTS, Mailbox, Naming, Pass, RouteLists, Source};
+use passes::{BusBrand, BusError, MAX_RECIPIENTS, Mailbox, Pass, RouteLists, Source};
 use std::alloc::Global;
 use std::sync::Wait;
 
-impl<B: Naming, M: Mailbox, R: Wait + Drop> Bus<B, M, R> {
+impl<B: BusBrand, M: Mailbox, R: Wait + Drop> Bus<B, M, R> {
     /// Finds the recipients of a broadcast, leaves the published state, and puts the message into their outboxes.
     /// Answers those whose outbox refused it, a shut one included, by rising number.
     /// Nothing is written out: `Pass::push_out` does it.

@@ -6,11 +6,11 @@ ghost use Rattle.passes.specs.Unicasts.{Unicasts, IsUnsent};
 
 use crate::bus::Bus;
 use bytes::Bytes;
-use passes::{BusError, Mailbox, Naming, Pass, Sent, Source};
+use passes::{BusBrand, BusError, Mailbox, Pass, Sent, Source};
 use std::alloc::Global;
 use std::sync::Wait;
 
-impl<B: Naming, M: Mailbox, R: Wait + Drop> Bus<B, M, R> {
+impl<B: BusBrand, M: Mailbox, R: Wait + Drop> Bus<B, M, R> {
     /// Finds the owner of a name, which is unique or well-known, leaves the published state, and puts the message into
     /// the owner's outbox. Nothing is written out: `Pass::push_out` does it.
     ///

@@ -4,18 +4,18 @@ use crate::bus::Bus;
 use bytes::Bytes;
 use message_view::View;
 use monitors::{Monitors, Owner};
-use passes::{Control, Mailbox, Naming};
+use passes::{BusBrand, Control, Mailbox};
 use std::alloc::Global;
 use std::sync::Wait;
 
 /// A connection whose message is shown, while the lock of the bus is held.
 #[derive(Drop)]
-struct Sender<'a, B: Naming, M: Mailbox, R: Wait + Drop> {
+struct Sender<'a, B: BusBrand, M: Mailbox, R: Wait + Drop> {
     control: &'a Control<B, M, R>,
     number: u64,
 }
 
-impl<'a, B: Naming, M: Mailbox, R: Wait + Drop> Owner for Sender<'a, B, M, R> {
+impl<'a, B: BusBrand, M: Mailbox, R: Wait + Drop> Owner for Sender<'a, B, M, R> {
     ghost answers = { λ s name owns. Unit {0} };
 
     fn owns(&self, name: &str) -> bool {
@@ -36,7 +36,7 @@ impl Owner for Nameless {
     }
 }
 
-impl<B: Naming, M: Mailbox, R: Wait + Drop> Bus<B, M, R> {
+impl<B: BusBrand, M: Mailbox, R: Wait + Drop> Bus<B, M, R> {
     /// Those who watch all that goes through the bus.
     pub fn monitors(&self) -> &Monitors<M> {
         &self.monitors

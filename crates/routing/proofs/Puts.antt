@@ -2,8 +2,8 @@
 use Rattle.std.proofs.Common.{ℕ, zero, suc, ◌≡◌, ◌+◌, ◌<◌, ◌≤◌, ◌==◌, ◌&&◌, ◌||◌, not, Bool, true, false, true≢false, cond, List, [], ◌∷◌, ◌++◌, length, take, drop, get_or, refl, sym, ap, ◌∙◌, subst, arith, eqb-true, ne_eqb, take-append-drop, length-append, Option, Some, None, IsSome, IfSome, IsSomeAnd}
 use Rattle.std.proofs.lemmas.List.{take_more}
 use Rattle.outbox.specs.Items.{Item}
-use Rattle.routing.specs.SenderView.{StopView}
-use Rattle.routing.specs.Stops.{stop_at, is_in, RisesFrom, HasStop, AllHave}
+use Rattle.routing.specs.SenderView.{RecipientSeatView}
+use Rattle.routing.specs.RecipientSeats.{seat_at, is_in, RisesFrom, HasSeat, AllHave}
 use Rattle.routing.specs.Puts.{end_of, PutThere, PutAt, RoutedAt, PutTo}
 
 end_above : (n : ℕ) (xs : List ℕ) → RisesFrom n xs → n ≤ end_of n xs
@@ -52,44 +52,44 @@ next_above recipients k d lt r =
     let P : List ℕ → Type 0 = λ l. RisesFrom 0 l in
     subst P (take_more recipients k d lt) (rises_front 0 (take (k + 1) recipients) (drop (k + 1) recipients) (subst P (sym (take-append-drop (k + 1) recipients)) r))
 
-all_at : (recipients : List ℕ) (k d : ℕ) (stops : List StopView) → k < length recipients → AllHave recipients stops → HasStop (get_or recipients k d) stops
-all_at [] k d stops lt all = absurd (omega (arith, lt))
-all_at (r ∷ rs) zero d stops lt all = all.0
-all_at (r ∷ rs) (suc k) d stops lt all = all_at rs k d stops (omega (arith, lt)) all.1
+all_at : (recipients : List ℕ) (k d : ℕ) (recipient_seats : List RecipientSeatView) → k < length recipients → AllHave recipients recipient_seats → HasSeat (get_or recipients k d) recipient_seats
+all_at [] k d recipient_seats lt all = absurd (omega (arith, lt))
+all_at (r ∷ rs) zero d recipient_seats lt all = all.0
+all_at (r ∷ rs) (suc k) d recipient_seats lt all = all_at rs k d recipient_seats (omega (arith, lt)) all.1
 
-pub some_and : (o : Option StopView) (P : StopView → Type 0) → IsSome o → IfSome o P → IsSomeAnd o P
+pub some_and : (o : Option RecipientSeatView) (P : RecipientSeatView → Type 0) → IsSome o → IfSome o P → IsSomeAnd o P
 some_and None P has if_some = absurd (true≢false (sym has))
 some_and (Some s) P has if_some = if_some
 
--- what holds of each stop before holds of the next recipient's now
-pub may_put : (item : Item) (k : ℕ) (recipients : List ℕ) (d : ℕ) (refused : List ℕ) (old stops : List StopView) (P : StopView → Type 0) → k < length recipients → RisesFrom 0 recipients → AllHave recipients old
-    → ((n : ℕ) → IfSome (stop_at n old) P) → PutTo item (take k recipients) refused old stops → IsSomeAnd (stop_at (get_or recipients k d) stops) P
-may_put item k recipients d refused old stops P lt rising all fits h =
+-- what holds of each recipient_seat before holds of the next recipient's now
+pub may_put : (item : Item) (k : ℕ) (recipients : List ℕ) (d : ℕ) (refused : List ℕ) (old recipient_seats : List RecipientSeatView) (P : RecipientSeatView → Type 0) → k < length recipients → RisesFrom 0 recipients → AllHave recipients old
+    → ((n : ℕ) → IfSome (seat_at n old) P) → PutTo item (take k recipients) refused old recipient_seats → IsSomeAnd (seat_at (get_or recipients k d) recipient_seats) P
+may_put item k recipients d refused old recipient_seats P lt rising all fits h =
     let m : ℕ = get_or recipients k d in
     let done : List ℕ = take k recipients in
     let r = next_above recipients k d lt rising in
     let out : is_in m done ≡ false = not_in 0 m done (rises_front 0 done (m ∷ []) r) (rises_last 0 m done r) in
-    let R : Bool → Type 0 = λ b. RoutedAt item b (is_in m refused) (stop_at m old) (stop_at m stops) in
+    let R : Bool → Type 0 = λ b. RoutedAt item b (is_in m refused) (seat_at m old) (seat_at m recipient_seats) in
     let same = subst R out (h.each m) in
-    let Q : Option StopView → Type 0 = λ o. IsSomeAnd o P in
-    subst Q (sym same.1) (some_and (stop_at m old) P (all_at recipients k d old lt all) (fits m))
+    let Q : Option RecipientSeatView → Type 0 = λ o. IsSomeAnd o P in
+    subst Q (sym same.1) (some_and (seat_at m old) P (all_at recipients k d old lt all) (fits m))
 
--- what one more put makes of a stop: of its recipient's, or of another
-pub put_more : (item : Item) (e put done refused : Bool) (old stops new : Option StopView) (before after : StopView) → (e ≡ true → (done ≡ false) × (stops ≡ Some before)) → RoutedAt item done refused old stops
-    → PutThere item put before after → new ≡ cond e (Some after) stops → RoutedAt item (done || e) (refused || (e && not put)) old new
-put_more item true put true refused old stops new before after its h change is = absurd (true≢false (its refl).0)
-put_more item true put false true old stops new before after its h change is = absurd (true≢false h.0)
-put_more item true true false false old stops new before after its h change is = (before, after, sym h.1 ∙ (its refl).1, is, change)
-put_more item true false false false old stops new before after its h change is = (before, after, sym h.1 ∙ (its refl).1, is, change)
-put_more item false put false true old stops new before after its h change is = absurd (true≢false h.0)
-put_more item false put false false old stops new before after its h change is = (refl, is ∙ h.1)
-put_more item false put true true old stops new before after its h change is = (h.0, h.1, h.2, is ∙ h.3, h.4)
-put_more item false put true false old stops new before after its h change is = (h.0, h.1, h.2, is ∙ h.3, h.4)
+-- what one more put makes of a recipient_seat: of its recipient's, or of another
+pub put_more : (item : Item) (e put done refused : Bool) (old recipient_seats new : Option RecipientSeatView) (before after : RecipientSeatView) → (e ≡ true → (done ≡ false) × (recipient_seats ≡ Some before)) → RoutedAt item done refused old recipient_seats
+    → PutThere item put before after → new ≡ cond e (Some after) recipient_seats → RoutedAt item (done || e) (refused || (e && not put)) old new
+put_more item true put true refused old recipient_seats new before after its h change is = absurd (true≢false (its refl).0)
+put_more item true put false true old recipient_seats new before after its h change is = absurd (true≢false h.0)
+put_more item true true false false old recipient_seats new before after its h change is = (before, after, sym h.1 ∙ (its refl).1, is, change)
+put_more item true false false false old recipient_seats new before after its h change is = (before, after, sym h.1 ∙ (its refl).1, is, change)
+put_more item false put false true old recipient_seats new before after its h change is = absurd (true≢false h.0)
+put_more item false put false false old recipient_seats new before after its h change is = (refl, is ∙ h.1)
+put_more item false put true true old recipient_seats new before after its h change is = (h.0, h.1, h.2, is ∙ h.3, h.4)
+put_more item false put true false old recipient_seats new before after its h change is = (h.0, h.1, h.2, is ∙ h.3, h.4)
 
 -- one more recipient
-next_put : (item : Item) (m : ℕ) (done refused refused' : List ℕ) (old stops new : List StopView) (put : Bool) → RisesFrom 0 (done ++ m ∷ []) → refused' ≡ cond put refused (refused ++ m ∷ []) → PutTo item done refused old stops
-    → PutAt m item put stops new → PutTo item (done ++ m ∷ []) refused' old new
-next_put item m done refused refused' old stops new put r noted h now =
+next_put : (item : Item) (m : ℕ) (done refused refused' : List ℕ) (old recipient_seats new : List RecipientSeatView) (put : Bool) → RisesFrom 0 (done ++ m ∷ []) → refused' ≡ cond put refused (refused ++ m ∷ []) → PutTo item done refused old recipient_seats
+    → PutAt m item put recipient_seats new → PutTo item (done ++ m ∷ []) refused' old new
+next_put item m done refused refused' old recipient_seats new put r noted h now =
     record {
       each = λ n. one n;
       rising = let P : List ℕ → Type 0 = λ l. RisesFrom 0 l in subst P (sym noted) (rising' put);
@@ -123,30 +123,30 @@ next_put item m done refused refused' old stops new put r noted h now =
         plain true = refl
         plain false = refl
 
-    its : (n : ℕ) → (m == n) ≡ true → (is_in n done ≡ false) × (stop_at n stops ≡ Some now.before)
-    its n e = let P : ℕ → Type 0 = λ j. (is_in j done ≡ false) × (stop_at j stops ≡ Some now.before) in subst P (eqb-true m n e) (out_done, now.was)
+    its : (n : ℕ) → (m == n) ≡ true → (is_in n done ≡ false) × (seat_at n recipient_seats ≡ Some now.before)
+    its n e = let P : ℕ → Type 0 = λ j. (is_in j done ≡ false) × (seat_at j recipient_seats ≡ Some now.before) in subst P (eqb-true m n e) (out_done, now.was)
 
-    one : (n : ℕ) → RoutedAt item (is_in n (done ++ m ∷ [])) (is_in n refused') (stop_at n old) (stop_at n new)
+    one : (n : ℕ) → RoutedAt item (is_in n (done ++ m ∷ [])) (is_in n refused') (seat_at n old) (seat_at n new)
     one n =
         let listed : (is_in n refused || ((m == n) && not put)) ≡ is_in n refused' = sym (ap (is_in n) noted ∙ in_refused n put) in
-        let P : Bool → Type 0 = λ b. RoutedAt item b (is_in n refused') (stop_at n old) (stop_at n new) in
-        let Q : Bool → Type 0 = λ b. RoutedAt item (is_in n done || (m == n)) b (stop_at n old) (stop_at n new) in
-        subst P (sym (in_snoc n m done)) (subst Q listed (put_more item (m == n) put (is_in n done) (is_in n refused) (stop_at n old) (stop_at n stops) (stop_at n new) now.before now.after (its n) (h.each n) now.change (now.now n)))
+        let P : Bool → Type 0 = λ b. RoutedAt item b (is_in n refused') (seat_at n old) (seat_at n new) in
+        let Q : Bool → Type 0 = λ b. RoutedAt item (is_in n done || (m == n)) b (seat_at n old) (seat_at n new) in
+        subst P (sym (in_snoc n m done)) (subst Q listed (put_more item (m == n) put (is_in n done) (is_in n refused) (seat_at n old) (seat_at n recipient_seats) (seat_at n new) now.before now.after (its n) (h.each n) now.change (now.now n)))
 
-pub next_recipient : (item : Item) (k : ℕ) (recipients : List ℕ) (d : ℕ) (refused refused' : List ℕ) (old stops new : List StopView) (put : Bool) → k < length recipients → RisesFrom 0 recipients
-    → refused' ≡ cond put refused (refused ++ get_or recipients k d ∷ []) → PutTo item (take k recipients) refused old stops → PutAt (get_or recipients k d) item put stops new → PutTo item (take (k + 1) recipients) refused' old new
-next_recipient item k recipients d refused refused' old stops new put lt rising noted h now =
+pub next_recipient : (item : Item) (k : ℕ) (recipients : List ℕ) (d : ℕ) (refused refused' : List ℕ) (old recipient_seats new : List RecipientSeatView) (put : Bool) → k < length recipients → RisesFrom 0 recipients
+    → refused' ≡ cond put refused (refused ++ get_or recipients k d ∷ []) → PutTo item (take k recipients) refused old recipient_seats → PutAt (get_or recipients k d) item put recipient_seats new → PutTo item (take (k + 1) recipients) refused' old new
+next_recipient item k recipients d refused refused' old recipient_seats new put lt rising noted h now =
     let P : List ℕ → Type 0 = λ l. PutTo item l refused' old new in
-    subst P (sym (take_more recipients k d lt)) (next_put item (get_or recipients k d) (take k recipients) refused refused' old stops new put (next_above recipients k d lt rising) noted h now)
+    subst P (sym (take_more recipients k d lt)) (next_put item (get_or recipients k d) (take k recipients) refused refused' old recipient_seats new put (next_above recipients k d lt rising) noted h now)
 
 pub noted_length : (put : Bool) (m : ℕ) (refused refused' : List ℕ) (k : ℕ) → refused' ≡ cond put refused (refused ++ m ∷ []) → length refused ≤ k → length refused' ≤ k + 1
 noted_length true m refused refused' k e l = let P : List ℕ → Type 0 = λ x. length x ≤ k + 1 in subst P (sym e) (omega (arith, l))
 noted_length false m refused refused' k e l = let P : List ℕ → Type 0 = λ x. length x ≤ k + 1 in let a = length-append refused (m ∷ []) in subst P (sym e) (omega (arith, l, a))
 
--- a put at one stop, as puts to a list of one recipient
-pub put_once : (item : Item) (m : ℕ) (put : Bool) (old new : List StopView) → PutAt m item put old new → (n : ℕ) → RoutedAt item (m == n) ((m == n) && not put) (stop_at n old) (stop_at n new)
+-- a put at one recipient_seat, as puts to a list of one recipient
+pub put_once : (item : Item) (m : ℕ) (put : Bool) (old new : List RecipientSeatView) → PutAt m item put old new → (n : ℕ) → RoutedAt item (m == n) ((m == n) && not put) (seat_at n old) (seat_at n new)
 put_once item m put old new now n =
-    put_more item (m == n) put false false (stop_at n old) (stop_at n old) (stop_at n new) now.before now.after (λ e. (refl, its e)) (refl, refl) now.change (now.now n)
+    put_more item (m == n) put false false (seat_at n old) (seat_at n old) (seat_at n new) now.before now.after (λ e. (refl, its e)) (refl, refl) now.change (now.now n)
   where
-    its : (m == n) ≡ true → stop_at n old ≡ Some now.before
-    its e = let P : ℕ → Type 0 = λ j. stop_at j old ≡ Some now.before in subst P (eqb-true m n e) now.was
+    its : (m == n) ≡ true → seat_at n old ≡ Some now.before
+    its e = let P : ℕ → Type 0 = λ j. seat_at j old ≡ Some now.before in subst P (eqb-true m n e) now.was

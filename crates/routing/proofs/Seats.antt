@@ -3,27 +3,27 @@ use Rattle.std.proofs.Common.{ℕ, ◌≡◌, ◌==◌, Option, Some, None, IsSo
 use Rattle.std.specs.Option.{option_or}
 use Rattle.std.proofs.lemmas.List.Folds.{find-append}
 use Rattle.outbox.specs.Views.{blank}
-use Rattle.routing.specs.SenderView.{RecipientView, StopView}
-use Rattle.routing.specs.Stops.{is_for, stop_at, HasStop}
+use Rattle.routing.specs.SenderView.{RecipientView, RecipientSeatView}
+use Rattle.routing.specs.RecipientSeats.{is_for, seat_at, HasSeat}
 use Rattle.routing.specs.Puts.{TakenAt, SeatsTaken}
 
--- a new stop after the others is this recipient's, where it had none
-pub new_taken : (r : RecipientView) (t : StopView) (old : List StopView) → t.recipient ≡ r.number → t.outbox ≡ r.outbox → t.seat.view ≡ blank → t.is_waiting ≡ false → SeatsTaken (r ∷ []) old (old ++ t ∷ [])
+-- a new recipient_seat after the others is this recipient's, where it had none
+pub new_taken : (r : RecipientView) (t : RecipientSeatView) (old : List RecipientSeatView) → t.recipient ≡ r.number → t.outbox ≡ r.outbox → t.seat.view ≡ blank → t.is_waiting ≡ false → SeatsTaken (r ∷ []) old (old ++ t ∷ [])
 new_taken r t old is at new none n =
-    let P : Option StopView → Type 0 = λ o. TakenAt (r ∷ []) n (stop_at n old) o in
-    subst P (sym (find-append (is_for n) old (t ∷ []))) (pick (stop_at n old) (t.recipient == n) refl)
+    let P : Option RecipientSeatView → Type 0 = λ o. TakenAt (r ∷ []) n (seat_at n old) o in
+    subst P (sym (find-append (is_for n) old (t ∷ []))) (pick (seat_at n old) (t.recipient == n) refl)
   where
-    pick : (o : Option StopView) (b : Bool) → (t.recipient == n) ≡ b → TakenAt (r ∷ []) n o (option_or o (cond b (Some t) None))
+    pick : (o : Option RecipientSeatView) (b : Bool) → (t.recipient == n) ≡ b → TakenAt (r ∷ []) n o (option_or o (cond b (Some t) None))
     pick (Some s) b e = refl
     pick None true e = (inl (sym is ∙ eqb-true t.recipient n e, sym at), new, none)
     pick None false e = tt
 
-pub new_has : (n : ℕ) (t : StopView) (old : List StopView) → t.recipient ≡ n → HasStop n (old ++ t ∷ [])
+pub new_has : (n : ℕ) (t : RecipientSeatView) (old : List RecipientSeatView) → t.recipient ≡ n → HasSeat n (old ++ t ∷ [])
 new_has n t old is =
-    let P : Option StopView → Type 0 = λ o. IsSome o in
-    subst P (sym (find-append (is_for n) old (t ∷ []))) (pick (stop_at n old) (t.recipient == n) (eq-eqb t.recipient n is))
+    let P : Option RecipientSeatView → Type 0 = λ o. IsSome o in
+    subst P (sym (find-append (is_for n) old (t ∷ []))) (pick (seat_at n old) (t.recipient == n) (eq-eqb t.recipient n is))
   where
-    pick : (o : Option StopView) (b : Bool) → b ≡ true → IsSome (option_or o (cond b (Some t) None))
+    pick : (o : Option RecipientSeatView) (b : Bool) → b ≡ true → IsSome (option_or o (cond b (Some t) None))
     pick (Some s) b e = refl
     pick None true e = refl
     pick None false e = absurd (true≢false (sym e))

@@ -1,21 +1,21 @@
--- Inner: what seats that are taken and puts that are made change, stop by stop.
+-- Inner: what seats that are taken and puts that are made change, recipient_seat by recipient_seat.
 use Rattle.std.specs.Prelude.{ℕ, ◌≡◌, ◌≤◌, ◌+◌, ◌==◌, Bool, true, false, not, cond, Option, Some, None, List, [], ◌∷◌}
 use Rattle.outbox.specs.Items.{Item}
 use Rattle.outbox.specs.Views.{blank, after_put}
-use Rattle.routing.specs.SenderView.{RecipientView, StopView, SenderView}
-use Rattle.routing.specs.Stops.{stop_at, is_in, RisesFrom, Lists}
+use Rattle.routing.specs.SenderView.{RecipientView, RecipientSeatView, SenderView}
+use Rattle.routing.specs.RecipientSeats.{seat_at, is_in, RisesFrom, Lists}
 
--- a stop that was there is as it was; a new one is at a recipient's outbox, and has put nothing
-abbrev pub TakenAt : List RecipientView → ℕ → Option StopView → Option StopView → Type 0
+-- a recipient_seat that was there is as it was; a new one is at a recipient's outbox, and has put nothing
+abbrev pub TakenAt : List RecipientView → ℕ → Option RecipientSeatView → Option RecipientSeatView → Type 0
 TakenAt recipients n (Some s) new = new ≡ Some s
 TakenAt recipients n None None = Unit {0}
 TakenAt recipients n None (Some t) = Lists recipients n t.outbox × (t.seat.view ≡ blank) × (t.is_waiting ≡ false)
 
-abbrev pub SeatsTaken : List RecipientView → List StopView → List StopView → Type 0
-SeatsTaken recipients old new = (n : ℕ) → TakenAt recipients n (stop_at n old) (stop_at n new)
+abbrev pub SeatsTaken : List RecipientView → List RecipientSeatView → List RecipientSeatView → Type 0
+SeatsTaken recipients old new = (n : ℕ) → TakenAt recipients n (seat_at n old) (seat_at n new)
 
--- what a put, or its refusal, makes of a stop
-pub record PutThere (item : Item) (put : Bool) (old new : StopView) : Type 0 where
+-- what a put, or its refusal, makes of a recipient_seat
+pub record PutThere (item : Item) (put : Bool) (old new : RecipientSeatView) : Type 0 where
   pub recipient : new.recipient ≡ old.recipient
   pub outbox : new.outbox ≡ old.outbox
   pub view : new.seat.view ≡ cond put (after_put old.seat.view item) old.seat.view
@@ -23,18 +23,18 @@ pub record PutThere (item : Item) (put : Bool) (old new : StopView) : Type 0 whe
   pub shut : old.seat.knows_shut ≡ true → (put ≡ false) × (new.seat.knows_shut ≡ true)
   pub waits : new.is_waiting ≡ true
 
--- the recipient's stop changes so, and no other
-pub record PutAt (recipient : ℕ) (item : Item) (put : Bool) (old new : List StopView) : Type 0 where
-  pub before : StopView
-  pub after : StopView
-  pub was : stop_at recipient old ≡ Some before
+-- the recipient's recipient_seat changes so, and no other
+pub record PutAt (recipient : ℕ) (item : Item) (put : Bool) (old new : List RecipientSeatView) : Type 0 where
+  pub before : RecipientSeatView
+  pub after : RecipientSeatView
+  pub was : seat_at recipient old ≡ Some before
   pub change : PutThere item put before after
-  pub now : (n : ℕ) → stop_at n new ≡ cond (recipient == n) (Some after) (stop_at n old)
+  pub now : (n : ℕ) → seat_at n new ≡ cond (recipient == n) (Some after) (seat_at n old)
 
--- at a recipient the broadcast was put or refused; another stop is as it was
-abbrev pub RoutedAt : Item → Bool → Bool → Option StopView → Option StopView → Type 0
+-- at a recipient the broadcast was put or refused; another recipient_seat is as it was
+abbrev pub RoutedAt : Item → Bool → Bool → Option RecipientSeatView → Option RecipientSeatView → Type 0
 RoutedAt item false refused old new = (refused ≡ false) × (new ≡ old)
-RoutedAt item true refused old new = (s : StopView) × (t : StopView) × (old ≡ Some s) × (new ≡ Some t) × PutThere item (not refused) s t
+RoutedAt item true refused old new = (s : RecipientSeatView) × (t : RecipientSeatView) × (old ≡ Some s) × (new ≡ Some t) × PutThere item (not refused) s t
 
 -- one above the last number, or n
 abbrev pub end_of : ℕ → List ℕ → ℕ
@@ -42,8 +42,8 @@ end_of n [] = n
 end_of n (x ∷ xs) = end_of (x + 1) xs
 
 -- the broadcast was put to each of these recipients, but to those that refused it
-pub record PutTo (item : Item) (recipients refused : List ℕ) (old new : List StopView) : Type 0 where
-  pub each : (n : ℕ) → RoutedAt item (is_in n recipients) (is_in n refused) (stop_at n old) (stop_at n new)
+pub record PutTo (item : Item) (recipients refused : List ℕ) (old new : List RecipientSeatView) : Type 0 where
+  pub each : (n : ℕ) → RoutedAt item (is_in n recipients) (is_in n refused) (seat_at n old) (seat_at n new)
   pub rising : RisesFrom 0 refused
   pub below : end_of 0 refused ≤ end_of 0 recipients
 
@@ -54,10 +54,10 @@ pub record RoutedTo (bytes recipients refused : List ℕ) (old new : SenderView)
   pub mark_is : item.mark ≡ Some (old.origin, old.count + 1)
   pub origin_is : new.origin ≡ old.origin
   pub count_is : new.count ≡ old.count + 1
-  pub change : PutTo item recipients refused old.stops new.stops
+  pub change : PutTo item recipients refused old.recipient_seats new.recipient_seats
 
 -- a message that isn't a broadcast was put to the recipient or refused, and nothing else changes
 pub record PutOnce (recipient : ℕ) (item : Item) (put : Bool) (old new : SenderView) : Type 0 where
   pub origin_is : new.origin ≡ old.origin
   pub count_is : new.count ≡ old.count
-  pub change : PutAt recipient item put old.stops new.stops
+  pub change : PutAt recipient item put old.recipient_seats new.recipient_seats

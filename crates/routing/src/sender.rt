@@ -1,7 +1,7 @@
 // Senders.
 
 ghost use Rattle.std.specs.Prelude.{◌≡◌, ◌<◌, ◌≤◌, [], ◌∷◌, ◌↔◌, ℕ, false, true, IfOk, OnOk, OnErr, None, filter, is_some, length};
-ghost use Rattle.routing.specs.Stops.{RisesFrom, all_written, is_in, stop_at, shut_at, waits_at, HasStop, AllHave, AllFit, Keeps, Routed, SentTo, Unrouted, is_sent};
+ghost use Rattle.routing.specs.RecipientSeats.{RisesFrom, all_written, is_in, seat_at, shut_at, waits_at, HasSeat, AllHave, AllFit, Keeps, Routed, SentTo, Unrouted, is_sent};
 ghost use Rattle.routing.specs.Puts.{RoutedTo, PutOnce};
 
 use crate::error::RouteError;
@@ -9,8 +9,8 @@ use crate::events::{begin, end};
 use crate::gate::{Gate, OpenGate};
 use crate::mailbox::Mailbox;
 use crate::recipient::Recipient;
-use crate::stops::{
-    Stop, place_of, push_out_all, put_all, put_at, retain, shut_waiting, take_seat,
+use crate::recipient_seats::{
+    RecipientSeat, place_of, push_out_all, put_all, put_at, retain, shut_waiting, take_seat,
 };
 use arrayvec::ArrayVec;
 use bytes::Bytes;
@@ -35,7 +35,7 @@ pub enum Sent {
 pub struct Sender<C> {
     origin: u64,
     count: u64,
-    stops: Vec<Stop<C>>,
+    recipient_seats: Vec<RecipientSeat<C>>,
     // None before the first message that is held.
     releases: Option<Releases>,
     is_holding: bool,
@@ -43,25 +43,25 @@ pub struct Sender<C> {
 
 impl<C> Model for Sender<C> {
     ghost use Rattle.routing.specs.SenderView.{SenderView};
-    ghost use Rattle.routing.specs.Stops.{AllFit};
+    ghost use Rattle.routing.specs.RecipientSeats.{AllFit};
     ghost use Rattle.routing.specs.Settled.{IsSettled};
 
     ghost Value = { SenderView };
 
-    ghost view = { λ s. record { origin = s.origin; count = s.count; stops = s.stops.items } };
+    ghost view = { λ s. record { origin = s.origin; count = s.count; recipient_seats = s.recipient_seats.items } };
 
-    ghost invariant = { λ s. AllFit s.origin s.count s.stops.items × IsSettled s.is_holding s.releases };
+    ghost invariant = { λ s. AllFit s.origin s.count s.recipient_seats.items × IsSettled s.is_holding s.releases };
 }
 
 impl<C> Sender<C> {
     /// A sender that has put nothing. It takes no memory.
     pub fn new(alloc: Global, origin: u64) -> Sender<C>
-        ensures { (result.origin ≡ origin) × (result.count ≡ 0) × (result.stops ≡ []) }
+        ensures { (result.origin ≡ origin) × (result.count ≡ 0) × (result.recipient_seats ≡ []) }
     {
         Sender {
             origin,
             count: 0,
-            stops: Vec::new(alloc),
+            recipient_seats: Vec::new(alloc),
             releases: None,
             is_holding: false,
         }
@@ -71,18 +71,18 @@ impl<C> Sender<C> {
 impl<C: Mailbox> Sender<C> {
     /// Whether it has a seat at this recipient's outbox.
     pub fn has(&self, recipient: u64) -> bool
-        ensures { result ≡ is_some (stop_at recipient self.now.stops) }
+        ensures { result ≡ is_some (seat_at recipient self.now.recipient_seats) }
     {
-        place_of(self.stops.as_slice(), recipient).is_some()
+        place_of(self.recipient_seats.as_slice(), recipient).is_some()
     }
 
     /// Takes a seat at the recipient's outbox, where it has none there.
     pub fn take_seat(&mut self, recipient: Recipient<C>) -> Result<(), AllocError>
         ensures keeps { Keeps (recipient ∷ []) self.old self.new }
         ensures unrouted { Unrouted self.old self.new }
-        ensures has { OnOk result (HasStop recipient.number self.new.stops) }
+        ensures has { OnOk result (HasSeat recipient.number self.new.recipient_seats) }
     {
-        take_seat(&mut self.stops, recipient)
+        take_seat(&mut self.recipient_seats, recipient)
     }
 
     /// Puts a broadcast with these bytes into the outboxes of its recipients, whose numbers rise, and answers those whose
@@ -97,7 +97,7 @@ impl<C: Mailbox> Sender<C> {
     ) -> Result<ArrayVec<u64, 4096>, RouteError>
         requires few { length recipients.now ≤ 4096 }
         requires rising { RisesFrom 0 recipients.now }
-        requires seats { AllHave recipients.now self.old.stops }
+        requires seats { AllHave recipients.now self.old.recipient_seats }
         ensures ok { IfOk result (λ refused. Routed bytes.now recipients.now refused.items self.old self.new) }
         ensures keeps { Keeps [] self.old self.new }
         ensures err { OnErr result (self.new ≡ self.old) }
@@ -122,7 +122,7 @@ impl<C: Mailbox> Sender<C> {
     ) -> Result<(), RouteError>
         requires few { length recipients.now ≤ 4096 }
         requires rising { RisesFrom 0 recipients.now }
-        requires seats { AllHave recipients.now self.old.stops }
+        requires seats { AllHave recipients.now self.old.recipient_seats }
         requires none { refused.old.items ≡ [] }
         ensures ok { OnOk result (Routed bytes.now recipients.now refused.new.items self.old self.new) }
         ensures keeps { Keeps [] self.old self.new }
@@ -149,7 +149,7 @@ impl<C: Mailbox> Sender<C> {
         requires count { self.old.count < u64.MAX }
         requires few { length recipients.now ≤ 4096 }
         requires rising { RisesFrom 0 recipients.now }
-        requires seats { AllHave recipients.now self.old.stops }
+        requires seats { AllHave recipients.now self.old.recipient_seats }
         requires none { refused.old.items ≡ [] }
         ensures ok { OnOk result (RoutedTo bytes.now recipients.now refused.new.items self.old self.new) }
         ensures err { OnErr result (self.new ≡ self.old) }
@@ -160,7 +160,7 @@ impl<C: Mailbox> Sender<C> {
         gate.before(0);
         put_all(
             rt,
-            self.stops.as_mut_slice(),
+            self.recipient_seats.as_mut_slice(),
             recipients,
             &mut shares,
             refused,
@@ -179,14 +179,14 @@ impl<C: Mailbox> Sender<C> {
         recipient: u64,
         bytes: &Bytes,
     ) -> Result<Sent, AllocError>
-        requires { HasStop recipient self.old.stops }
+        requires { HasSeat recipient self.old.recipient_seats }
         ensures sent { IfOk result (λ sent. SentTo recipient bytes.now (is_sent sent) self.old self.new) }
         ensures err { OnErr result (self.new ≡ self.old) }
         ensures keeps { Keeps [] self.old self.new }
 
         // `Full` is answered only by an outbox that is shut, which then answers so always.
-        ensures full { result ≡ Ok Sent.Full → shut_at recipient self.new.stops ≡ true }
-        ensures shut { shut_at recipient self.old.stops ≡ true → IfOk result (λ sent. sent ≡ Sent.Full) }
+        ensures full { result ≡ Ok Sent.Full → shut_at recipient self.new.recipient_seats ≡ true }
+        ensures shut { shut_at recipient self.old.recipient_seats ≡ true → IfOk result (λ sent. sent ≡ Sent.Full) }
     {
         let item = self.message(alloc, bytes.clone()?)?;
         if self.put(rt, recipient, item) {
@@ -198,11 +198,11 @@ impl<C: Mailbox> Sender<C> {
 
     // Puts a message that isn't a broadcast, and says whether it was put.
     fn put<R: Wait>(&mut self, rt: &R, recipient: u64, item: Item) -> bool
-        requires has { HasStop recipient self.old.stops }
+        requires has { HasSeat recipient self.old.recipient_seats }
         requires unmarked { item.mark ≡ None }
         ensures { PutOnce recipient item result self.old self.new }
     {
-        put_at(rt, self.stops.as_mut_slice(), recipient, item)
+        put_at(rt, self.recipient_seats.as_mut_slice(), recipient, item)
     }
 
     /// A message that isn't a broadcast, for a put at one outbox. It is held with what is put while the sender holds.
@@ -243,31 +243,31 @@ impl<C: Mailbox> Sender<C> {
     {
         self.is_holding = false;
         self.releases = None;
-        shut_waiting(self.stops.as_slice());
+        shut_waiting(self.recipient_seats.as_slice());
     }
 
     /// Writes out each outbox in which something was put since it last was written out. Nothing is held any more.
     pub fn push_out<R: Wait>(&mut self, rt: &R)
-        ensures written { self.new ≡ record self.old { stops = all_written self.old.stops } }
-        ensures none { (n : ℕ) → waits_at n self.new.stops ≡ false }
+        ensures written { self.new ≡ record self.old { recipient_seats = all_written self.old.recipient_seats } }
+        ensures none { (n : ℕ) → waits_at n self.new.recipient_seats ≡ false }
     {
         self.release();
-        push_out_all(rt, self.stops.as_mut_slice());
+        push_out_all(rt, self.recipient_seats.as_mut_slice());
     }
 
     /// At how many outboxes it has a seat.
     pub fn seats(&self) -> usize
-        ensures seats { result ≡ length self.now.stops }
+        ensures seats { result ≡ length self.now.recipient_seats }
         // Its seats have put broadcasts of its origin alone, and no count is above its count.
-        ensures fits { AllFit self.now.origin self.now.count self.now.stops }
+        ensures fits { AllFit self.now.origin self.now.count self.now.recipient_seats }
     {
-        self.stops.len()
+        self.recipient_seats.len()
     }
 
     /// Gives up its seats at the outboxes of all others than these recipients.
     pub fn retain(&mut self, recipients: &[u64])
-        ensures { self.new ≡ record self.old { stops = filter (λ s. is_in s.recipient recipients.now) self.old.stops } }
+        ensures { self.new ≡ record self.old { recipient_seats = filter (λ s. is_in s.recipient recipients.now) self.old.recipient_seats } }
     {
-        retain(&mut self.stops, recipients);
+        retain(&mut self.recipient_seats, recipients);
     }
 }

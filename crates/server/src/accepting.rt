@@ -5,7 +5,7 @@ use crate::note::Cause;
 use crate::worker::Worker;
 use members::Arrival;
 use mio::Token;
-use sessions::Naming;
+use sessions::BusBrand;
 use std::fs::{File, Files};
 use std::random::RandomSource;
 use std::sync::Wait;
@@ -22,7 +22,7 @@ pub(crate) fn first_served(acceptor: &Option<Acceptor<'_>>) -> usize {
     }
 }
 
-impl<'a, J: Naming, R: Wait + Drop> Worker<'a, J, R> {
+impl<'a, B: BusBrand, R: Wait + Drop> Worker<'a, B, R> {
     /// Notes what the poll told of an endpoint. Answers false where the token is of none.
     pub(crate) fn is_of_endpoint(&mut self, token: Token) -> bool {
         match &mut self.acceptor {
@@ -39,7 +39,7 @@ impl<'a, J: Naming, R: Wait + Drop> Worker<'a, J, R> {
             };
             self.hand_out(rt, arrival);
         }
-        self.is_eager = true;
+        self.has_more_now = true;
     }
 
     /// The next connection, with what its talk admits, if one waits and there is a place for it.
@@ -52,7 +52,7 @@ impl<'a, J: Naming, R: Wait + Drop> Worker<'a, J, R> {
             self.stop_accepting();
             return None;
         }
-        if !acceptor.has_next(rt, &self.hub.notes) || !self.hub.newcomers.take_place(rt) {
+        if !acceptor.has_next(rt, &self.server.notes) || !self.server.newcomers.take_place(rt) {
             return None;
         }
         let (link, endpoint) = acceptor.take_next()?;
@@ -63,13 +63,13 @@ impl<'a, J: Naming, R: Wait + Drop> Worker<'a, J, R> {
     /// Hands a connection to the worker whose turn it is.
     fn hand_out<W: Wait + Clock>(&mut self, rt: &W, arrival: Arrival) {
         self.last = self.last.checked_add(1).unwrap_or(0);
-        if self.last >= self.posts.len() {
+        if self.last >= self.handles.len() {
             self.last = self.first;
         }
-        match self.posts.get(self.last) {
-            Some(post) if self.last > 0 => {
-                if post.hand_in(rt, arrival).is_err() {
-                    self.hub.turn_away(rt, Cause::MEMORY);
+        match self.handles.get(self.last) {
+            Some(handle) if self.last > 0 => {
+                if handle.hand_in(rt, arrival).is_err() {
+                    self.server.turn_away(rt, Cause::MEMORY);
                 }
             }
             _ => self.take(rt, arrival),
@@ -79,8 +79,8 @@ impl<'a, J: Naming, R: Wait + Drop> Worker<'a, J, R> {
     /// No more connections come.
     pub(crate) fn stop_accepting(&mut self) {
         if self.acceptor.take().is_some() {
-            for post in self.posts {
-                post.finish();
+            for handle in self.handles {
+                handle.finish();
             }
         }
     }

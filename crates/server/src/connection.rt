@@ -1,16 +1,16 @@
 // A connection of a worker.
 
-use crate::glance::Glance;
-use crate::hub::Hub;
 use crate::limit::Limit;
 use crate::limits::Limits;
 use crate::note::{Cause, Note};
 use crate::scratch::{Aids, Scratch};
+use crate::shared::Server;
+use crate::socket_probe::SocketProbe;
 use crate::unfinished::Beginning;
 use endpoints::Link;
-use members::{Arrival, Mail, Member, Post};
+use members::{Arrival, Handle, SocketMailbox, WorkerHandle};
 use mio::Token;
-use sessions::{Naming, RouteLists, Session, SessionError, StateReader, Step};
+use sessions::{BusBrand, RouteLists, Session, SessionError, StateReader, Step};
 use std::alloc::Global;
 use std::io;
 use std::io::ErrorKind;
@@ -46,9 +46,9 @@ pub(crate) enum Turn {
 
 /// A connection. One worker owns it.
 #[derive(Drop)]
-pub(crate) struct Connection<J: Naming> {
-    session: Session<J, Mail>,
-    member: Arc<Member>,
+pub(crate) struct Connection<B: BusBrand> {
+    session: Session<B, SocketMailbox>,
+    mailbox: SocketMailbox,
     link: Arc<Link>,
     begun: Instant,
     // What it has sent of a message, or a line, that isn't whole.
@@ -68,33 +68,33 @@ pub(crate) fn close(link: Arc<Link>) {
     }
 }
 
-impl<J: Naming> Connection<J> {
-    /// A connection that has just been accepted. The post tells of it by the token, and it is one of the newcomers.
+impl<B: BusBrand> Connection<B> {
+    /// A connection that has just been accepted. The handle tells of it by the token, and it is one of the newcomers.
     ///
     /// All that may fail comes before its session, so that none has to be dropped.
     pub(crate) fn new<W: Wait + Clock, R: Wait + Drop>(
         rt: &W,
         alloc: Global,
-        hub: &Hub<J, R>,
+        server: &Server<B, R>,
         arrival: Arrival,
-        post: Arc<Post>,
+        handle: Arc<WorkerHandle>,
         token: Token,
-    ) -> io::Result<Connection<J>> {
+    ) -> io::Result<Connection<B>> {
         let begun = Instant::now(rt)?;
         let Arrival { link, admission } = arrival;
         link.set_nonblocking()?;
         let link = Arc::new(alloc, link)?;
-        post.register(&link, token)?;
-        let instructions = Arc::try_clone(&hub.instructions)?;
-        let member = Member::new(alloc, Arc::try_clone(&link)?, post, token, hub.limits.room)?;
-        let member = Arc::new(alloc, member)?;
-        let mail = Mail::new(Arc::try_clone(&member)?);
-        let ticket = hub.newcomers.enter(rt, Arc::try_clone(&link)?)?;
-        let mut session = Session::admitting(alloc, hub.identity, admission, mail);
+        handle.register(&link, token)?;
+        let instructions = Arc::try_clone(&server.instructions)?;
+        let room = server.limits.room;
+        let mailbox = SocketMailbox::new(alloc, Arc::try_clone(&link)?, handle, token, room)?;
+        let shared = mailbox.share()?;
+        let ticket = server.newcomers.enter(rt, Arc::try_clone(&link)?)?;
+        let mut session = Session::admitting(alloc, server.identity, admission, shared);
         session.share_instructions(instructions);
         Ok(Connection {
             session,
-            member,
+            mailbox,
             link,
             begun,
             beginning: None,
@@ -105,14 +105,14 @@ impl<J: Naming> Connection<J> {
     }
 
     /// Reads the bus's state by its worker's reader, until that is reclaimed.
-    pub(crate) fn lend(&mut self, reader: Option<StateReader<J, Mail>>) {
+    pub(crate) fn lend(&mut self, reader: Option<StateReader<B, SocketMailbox>>) {
         if let Some(reader) = reader {
             self.session.lend(reader);
         }
     }
 
     /// Gives up the reader.
-    pub(crate) fn reclaim(&mut self) -> Option<StateReader<J, Mail>> {
+    pub(crate) fn reclaim(&mut self) -> Option<StateReader<B, SocketMailbox>> {
         self.session.reclaim()
     }
 
@@ -153,21 +153,21 @@ impl<J: Naming> Connection<J> {
 
     /// Counts its client among those that are in, once its Hello is answered: before the answer is written, so that
     /// whoever asks about it finds it. Where memory is refused, nobody waits for its end.
-    fn come_in<W: Wait, R: Wait + Drop>(&mut self, rt: &W, hub: &Hub<J, R>) {
+    fn accept_word<W: Wait, R: Wait + Drop>(&mut self, rt: &W, server: &Server<B, R>) {
         let Some(number) = self.number() else {
             return;
         };
         self.is_in = true;
-        hub.newcomers.leave(rt, self.ticket);
+        server.newcomers.leave(rt, self.ticket);
         if let Ok(link) = Arc::try_clone(&self.link) {
-            let _ = hub.clients.enter(rt, number, link);
+            let _ = server.clients.enter(rt, number, link);
         }
-        hub.notes.leave(rt, Note::Came(number));
+        server.notes.leave(rt, Note::Came(number));
     }
 
     /// The poll told of room to write.
     pub(crate) fn has_room<W: Wait>(&self, rt: &W) {
-        self.member.has_room(rt);
+        self.mailbox.has_room(rt);
     }
 
     /// Reads into the block and treats what came, as far as it goes in one turn. A read that doesn't fill the block took
@@ -179,7 +179,7 @@ impl<J: Naming> Connection<J> {
         &mut self,
         rt: &W,
         alloc: Global,
-        hub: &Hub<J, R>,
+        server: &Server<B, R>,
         scratch: &mut Scratch,
         has_ended: bool,
     ) -> Turn {
@@ -190,23 +190,23 @@ impl<J: Naming> Connection<J> {
                 0
             } else {
                 match self.link.receive(block) {
-                    Ok(0) => return self.at_end(rt, alloc, hub, &mut aids.lists),
+                    Ok(0) => return self.at_end(rt, alloc, server, &mut aids.lists),
                     Ok(count) => count,
                     Err(error) => match error.kind() {
                         ErrorKind::Interrupted => continue,
                         ErrorKind::WouldBlock => return Turn::Waits,
-                        _ => return self.at_end(rt, alloc, hub, &mut aids.lists),
+                        _ => return self.at_end(rt, alloc, server, &mut aids.lists),
                     },
                 }
             };
-            let treated = match self.treat(rt, alloc, hub, aids, &block[..count]) {
+            let treated = match self.treat(rt, alloc, server, aids, &block[..count]) {
                 Ok(treated) => treated,
                 Err(error) => return Turn::Ends(Cause::Session(error)),
             };
             if self.is_held {
                 return Turn::Held;
             }
-            if self.note_beginning(rt, alloc, hub).is_err() {
+            if self.note_beginning(rt, alloc, server).is_err() {
                 return Turn::Ends(Cause::Limit(Limit::Unfinished));
             }
             if count > 0 && count < block.len() && treated < BUSY && !has_ended {
@@ -221,11 +221,11 @@ impl<J: Naming> Connection<J> {
         &mut self,
         rt: &W,
         alloc: Global,
-        hub: &Hub<J, R>,
+        server: &Server<B, R>,
         lists: &mut RouteLists,
     ) -> Turn {
-        let shares = hub.limits.shares;
-        match self.session.step(rt, alloc, &hub.bus, shares, lists) {
+        let shares = server.limits.shares;
+        match self.session.step(rt, alloc, &server.bus, shares, lists) {
             Ok(_) => Turn::Gone,
             Err(error) => Turn::Ends(Cause::Session(error)),
         }
@@ -237,16 +237,16 @@ impl<J: Naming> Connection<J> {
         &mut self,
         rt: &W,
         alloc: Global,
-        hub: &Hub<J, R>,
+        server: &Server<B, R>,
         aids: &mut Aids,
         bytes: &[u8],
     ) -> Result<u32, SessionError> {
         self.session.feed(bytes)?;
         let mut treated = 0u32;
         for _ in rt.forever() {
-            let some = self.treat_some(rt, alloc, hub, aids);
+            let some = self.treat_some(rt, alloc, server, aids);
             if !self.is_in {
-                self.come_in(rt, hub);
+                self.accept_word(rt, server);
             }
             self.session.push_out(rt);
             let some = some?;
@@ -262,18 +262,18 @@ impl<J: Naming> Connection<J> {
         &mut self,
         rt: &W,
         alloc: Global,
-        hub: &Hub<J, R>,
+        server: &Server<B, R>,
         aids: &mut Aids,
     ) -> Result<u32, SessionError> {
         for treated in 0..MESSAGES {
-            self.is_held = self.asks_about_one_gone(rt, hub, &mut aids.glance);
+            self.is_held = self.asks_about_one_gone(rt, server, &mut aids.probe);
             if self.is_held {
                 return Ok(treated);
             }
-            let shares = hub.limits.shares;
+            let shares = server.limits.shares;
             let step = self
                 .session
-                .step(rt, alloc, &hub.bus, shares, &mut aids.lists)?;
+                .step(rt, alloc, &server.bus, shares, &mut aids.lists)?;
             if step == Step::Waits {
                 return Ok(treated);
             }
@@ -286,16 +286,16 @@ impl<J: Naming> Connection<J> {
     fn asks_about_one_gone<W: Wait, R: Wait + Drop>(
         &mut self,
         rt: &W,
-        hub: &Hub<J, R>,
-        glance: &mut Glance,
+        server: &Server<B, R>,
+        probe: &mut SocketProbe,
     ) -> bool {
         let Some(number) = self.session.next_subject() else {
             return false;
         };
-        let Some(link) = hub.clients.link_of(rt, number) else {
+        let Some(link) = server.clients.link_of(rt, number) else {
             return false;
         };
-        glance.sees_end(&link) && !glance.sees_end(&self.link)
+        probe.sees_end(&link) && !probe.sees_end(&self.link)
     }
 
     /// Notes what it has sent of a message that isn't whole, now that all whole ones are treated.
@@ -307,7 +307,7 @@ impl<J: Naming> Connection<J> {
         &mut self,
         rt: &W,
         alloc: Global,
-        hub: &Hub<J, R>,
+        server: &Server<B, R>,
     ) -> io::Result<()> {
         let before = self.beginning_len();
         let len = self.session.unread_len() as u64;
@@ -315,7 +315,7 @@ impl<J: Naming> Connection<J> {
             return Ok(());
         }
         let beginning = Beginning::of_len(rt, len)?;
-        hub.unfinished.replace(before, len)?;
+        server.unfinished.replace(before, len)?;
         self.beginning = beginning;
         if len < before && before > LONG {
             self.session.shrink_to_fit(alloc);
@@ -332,13 +332,13 @@ impl<J: Naming> Connection<J> {
         self,
         rt: &W,
         alloc: Global,
-        hub: &Hub<J, R>,
+        server: &Server<B, R>,
         lists: &mut RouteLists,
     ) -> Arc<Link> {
-        hub.unfinished.give_back(self.beginning_len());
+        server.unfinished.give_back(self.beginning_len());
         let Connection {
             session,
-            member,
+            mailbox,
             link,
             begun: _,
             beginning: _,
@@ -346,10 +346,10 @@ impl<J: Naming> Connection<J> {
             is_held: _,
             ticket: _,
         } = self;
-        if let Some(rest) = session.end(rt, alloc, &hub.bus, lists) {
-            hub.keep_rest(rt, rest);
+        if let Some(rest) = session.end(rt, alloc, &server.bus, lists) {
+            server.keep_rest(rt, rest);
         }
-        member.end(rt);
+        mailbox.end(rt);
         link
     }
 }

@@ -8,8 +8,6 @@ mod acceptor;
 mod clients;
 mod connection;
 mod endpoint;
-mod glance;
-mod hub;
 mod input;
 mod limit;
 mod limits;
@@ -20,6 +18,8 @@ mod notes;
 mod reserve;
 mod scratch;
 mod serving;
+mod shared;
+mod socket_probe;
 mod unfinished;
 mod worker;
 

@@ -35,7 +35,7 @@ struct Places {
 impl Places {
     /// Makes the oldest newcomer go: its worker finds its socket shut, and gives its place back. Where none is there yet,
     /// the first that comes has to go.
-    fn send_off_the_oldest(&mut self) {
+    fn close_oldest(&mut self) {
         if self.newcomers.is_empty() {
             self.wanted = Wanted::TheFirst;
         } else {
@@ -80,7 +80,7 @@ impl Newcomers {
             return true;
         }
         if places.wanted == Wanted::Nothing {
-            places.send_off_the_oldest();
+            places.close_oldest();
         }
         false
     }
@@ -92,7 +92,7 @@ impl Newcomers {
         places.newcomers.push(Newcomer { ticket, link })?;
         places.last_ticket = ticket;
         if places.wanted == Wanted::TheFirst && places.free == 0 {
-            places.send_off_the_oldest();
+            places.close_oldest();
         }
         Ok(ticket)
     }

@@ -1,6 +1,6 @@
 // What the connections of a worker use in turn.
 
-use crate::glance::Glance;
+use crate::socket_probe::SocketProbe;
 use sessions::RouteLists;
 use std::alloc::Global;
 use std::io;
@@ -20,7 +20,7 @@ pub(crate) struct Scratch {
 #[derive(Drop)]
 pub(crate) struct Aids {
     pub(crate) lists: RouteLists,
-    pub(crate) glance: Glance,
+    pub(crate) probe: SocketProbe,
 }
 
 impl Scratch {
@@ -29,7 +29,7 @@ impl Scratch {
             block: vec![in alloc; 0; BLOCK]?,
             aids: Aids {
                 lists: RouteLists::new(),
-                glance: Glance::new(rt, alloc)?,
+                probe: SocketProbe::new(rt, alloc)?,
             },
         })
     }

@@ -3,13 +3,13 @@
 ghost use Rattle.std.specs.Prelude.{◌≡◌};
 
 use crate::endpoint::Endpoint;
-use crate::hub::Hub;
 use crate::limits::Limits;
 use crate::note::Verbosity;
 use crate::notes::Log;
-use crate::worker::{Desk, accept_and_work, work};
-use members::Mail;
-use sessions::{Identity, IndexKey, Naming, Opened};
+use crate::shared::Server;
+use crate::worker::{WorkerSetup, accept_and_work, work};
+use members::SocketMailbox;
+use sessions::{BusBrand, Identity, IndexKey, Opened};
 use std::alloc::Global;
 use std::fs::{File, Files};
 use std::io::ErrorKind;
@@ -49,14 +49,14 @@ where
     R: Files<File = File> + RandomSource + Threads + Wait + Clock + Net + Sync,
     L: Log + Sync,
 {
-    let opened = Opened::<Mail>::new();
+    let opened = Opened::<SocketMailbox>::new();
     serve_on::<Brand, R, L>(rt, alloc, opened, start, endpoints, log)
 }
 
-fn serve_on<J: Naming + Send + Sync, R, L>(
+fn serve_on<B: BusBrand + Send + Sync, R, L>(
     rt: &R,
     alloc: Global,
-    opened: Opened<Mail>,
+    opened: Opened<SocketMailbox>,
     start: Start,
     endpoints: &[Endpoint],
     log: &L,
@@ -64,19 +64,19 @@ fn serve_on<J: Naming + Send + Sync, R, L>(
 where
     R: Files<File = File> + RandomSource + Threads + Wait + Clock + Net + Sync,
     L: Log + Sync,
-    requires { opened ≡ J.book }
+    requires { opened ≡ B.book }
 {
-    let hub = Hub::<J, &R>::new(rt, alloc, opened, &start)?;
-    run(rt, alloc, &hub, endpoints, &start, log)
+    let server = Server::<B, &R>::new(rt, alloc, opened, &start)?;
+    run(rt, alloc, &server, endpoints, &start, log)
 }
 
 /// Starts the workers and, where notes are wanted, the thread that writes them; is the first of the workers itself,
 /// which accepts, and waits for all of them to end; there is one more where it serves nobody itself. Where there is no
 /// thread for the log, or for a worker, the bus goes on without it.
-fn run<J: Naming + Send + Sync, R, L>(
+fn run<B: BusBrand + Send + Sync, R, L>(
     rt: &R,
     alloc: Global,
-    hub: &Hub<J, &R>,
+    server: &Server<B, &R>,
     endpoints: &[Endpoint],
     start: &Start,
     log: &L,
@@ -85,32 +85,32 @@ where
     R: Files<File = File> + RandomSource + Threads + Wait + Clock + Net + Sync,
     L: Log + Sync,
 {
-    let first = Desk::new(rt, alloc, start.until_closed)?;
+    let first = WorkerSetup::new(rt, alloc, start.until_closed)?;
     let acceptor = first.acceptor(rt, alloc, endpoints, start.count)?;
     let spare = usize::from(acceptor.may_wait());
-    let mut posts = Vec::with_capacity(alloc, hub.limits.workers)?;
-    posts.push(first.post()?)?;
+    let mut handles = Vec::with_capacity(alloc, server.limits.workers)?;
+    handles.push(first.handle()?)?;
     thread::scope(thread::scope_env(), rt, |scope| {
-        if hub.notes.are_wanted() {
-            let writer = move || hub.notes.write_all(rt, log);
+        if server.notes.are_wanted() {
+            let writer = move || server.notes.write_all(rt, log);
             let _ = Builder::new().spawn_scoped(scope, writer);
         }
-        for _ in 1..hub.limits.workers.saturating_add(spare) {
-            let Ok(desk) = Desk::new(rt, alloc, start.until_closed) else {
+        for _ in 1..server.limits.workers.saturating_add(spare) {
+            let Ok(setup) = WorkerSetup::new(rt, alloc, start.until_closed) else {
                 continue;
             };
-            let Ok(post) = desk.post() else {
+            let Ok(handle) = setup.handle() else {
                 continue;
             };
-            hub.notes.begin(rt);
-            let worker = move || work(rt, alloc, hub, desk);
+            server.notes.begin(rt);
+            let worker = move || work(rt, alloc, server, setup);
             if Builder::new().spawn_scoped(scope, worker).is_err() {
-                hub.notes.finish(rt);
-            } else if let Err(refused) = posts.push(post) {
+                server.notes.finish(rt);
+            } else if let Err(refused) = handles.push(handle) {
                 refused.value.finish();
             }
         }
-        accept_and_work(rt, alloc, hub, first, acceptor, posts.as_slice());
+        accept_and_work(rt, alloc, server, first, acceptor, handles.as_slice());
     });
     Ok(())
 }

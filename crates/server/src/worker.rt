@@ -4,14 +4,14 @@ use crate::accepting::first_served;
 use crate::acceptor::Acceptor;
 use crate::connection::{Connection, Turn, close};
 use crate::endpoint::Endpoint;
-use crate::hub::Hub;
 use crate::input::{INPUT, watch_input};
 use crate::limit::Limit;
 use crate::note::{Cause, Note};
 use crate::scratch::Scratch;
-use members::{Arrival, BELL, Mail, Post};
+use crate::shared::Server;
+use members::{Arrival, BELL, SocketMailbox, WorkerHandle};
 use mio::{Events, Poll, Token};
-use sessions::{Naming, StateReader};
+use sessions::{BusBrand, StateReader};
 use slab::Slab;
 use std::alloc::{AllocError, Global};
 use std::fs::{File, Files};
@@ -25,41 +25,45 @@ use std::{io, mem, thread};
 const EVENTS: usize = 256;
 
 /// How many milliseconds lie between two looks at the connections that may become overdue.
-const GLANCE: u64 = 500;
+const OVERDUE_CHECK: u64 = 500;
 
 /// How many milliseconds a connection that is held waits for its next turn.
-const MOMENT: u64 = 1;
+const HELD_PAUSE: u64 = 1;
 
 /// How many milliseconds to wait where the poll fails.
 const PAUSE: u64 = 50;
 
 /// What a worker works with, made before its thread is started.
 #[derive(Drop)]
-pub(crate) struct Desk {
+pub(crate) struct WorkerSetup {
     poll: Poll,
     events: Events,
-    post: Arc<Post>,
+    handle: Arc<WorkerHandle>,
     scratch: Scratch,
 }
 
-impl Desk {
-    pub(crate) fn new<R: Net>(rt: &R, alloc: Global, until_closed: bool) -> io::Result<Desk> {
+impl WorkerSetup {
+    pub(crate) fn new<R: Net>(
+        rt: &R,
+        alloc: Global,
+        until_closed: bool,
+    ) -> io::Result<WorkerSetup> {
         let poll = Poll::new(rt)?;
         if until_closed {
             watch_input(&poll)?;
         }
         let events = Events::with_capacity(alloc, EVENTS)?;
-        let post = Arc::new(alloc, Post::new(alloc, &poll)?)?;
+        let handle = Arc::new(alloc, WorkerHandle::new(alloc, &poll)?)?;
         let scratch = Scratch::new(rt, alloc)?;
-        Ok(Desk {
+        Ok(WorkerSetup {
             poll,
             events,
-            post,
+            handle,
             scratch,
         })
     }
 
-    /// What accepts at these endpoints, for the worker at this desk, until as many connections have come as are asked for.
+    /// What accepts at these endpoints, for the worker at this setup, until as many connections have come as are asked for.
     pub(crate) fn acceptor<'a, R: Files<File = File>>(
         &self,
         rt: &R,
@@ -71,34 +75,34 @@ impl Desk {
     }
 
     /// The worker as others see it.
-    pub(crate) fn post(&self) -> Result<Arc<Post>, AllocError> {
-        Arc::try_clone(&self.post)
+    pub(crate) fn handle(&self) -> Result<Arc<WorkerHandle>, AllocError> {
+        Arc::try_clone(&self.handle)
     }
 }
 
 /// A worker, with its share of the connections.
 #[derive(Drop)]
-pub(crate) struct Worker<'a, J: Naming, R: Wait + Drop> {
+pub(crate) struct Worker<'a, B: BusBrand, R: Wait + Drop> {
     pub(crate) alloc: Global,
-    pub(crate) hub: &'a Hub<J, R>,
-    post: Arc<Post>,
-    connections: Slab<Connection<J>>,
+    pub(crate) server: &'a Server<B, R>,
+    handle: Arc<WorkerHandle>,
+    connections: Slab<Connection<B>>,
     scratch: Scratch,
     /// Where it accepts connections, if it is the one that does, until no more come.
     pub(crate) acceptor: Option<Acceptor<'a>>,
     /// Among whom it hands them out: itself, and then the others.
-    pub(crate) posts: &'a [Arc<Post>],
+    pub(crate) handles: &'a [Arc<WorkerHandle>],
     /// The first of those who get any: another, where an accept may have to wait, for which nobody who is served should.
     pub(crate) first: usize,
     /// Whose turn it was.
     pub(crate) last: usize,
     // What it lends to the connection whose turn it is. One that ends gives it back to the bus, where the next is had.
-    reader: Option<StateReader<J, Mail>>,
+    reader: Option<StateReader<B, SocketMailbox>>,
     // The keys of those that had more to read when their turn was over, or were held.
     again: Vec<usize>,
     /// One of them at least may go on at once, where the others wait for the end of somebody who has gone; or clients
     /// still wait at an endpoint.
-    pub(crate) is_eager: bool,
+    pub(crate) has_more_now: bool,
     // How many of its connections may become overdue.
     watched: u32,
     // When it last looked whether any of those is overdue.
@@ -109,73 +113,79 @@ pub(crate) struct Worker<'a, J: Naming, R: Wait + Drop> {
 
 /// Serves the connections that are handed over, until no more come and all have ended. The end of the input that is
 /// watched ends them.
-pub(crate) fn work<J: Naming, R: Wait + Drop, W: Wait + Clock>(
+pub(crate) fn work<B: BusBrand, R: Wait + Drop, W: Wait + Clock>(
     rt: &W,
     alloc: Global,
-    hub: &Hub<J, R>,
-    desk: Desk,
+    server: &Server<B, R>,
+    setup: WorkerSetup,
 ) {
-    let (mut worker, mut poll, mut events) = Worker::new(alloc, hub, desk, None, &[]);
+    let (mut worker, mut poll, mut events) = Worker::new(alloc, server, setup, None, &[]);
     for _ in rt.forever() {
         worker.serve(rt, &mut poll, &mut events);
         if worker.is_done(rt) {
-            hub.notes.finish(rt);
+            server.notes.finish(rt);
             return;
         }
     }
 }
 
 /// Serves as the first of the workers, which accepts connections, and hands them out among all, of whom it is the first.
-pub(crate) fn accept_and_work<'a, J: Naming, R: Wait + Drop, W>(
+pub(crate) fn accept_and_work<'a, B: BusBrand, R: Wait + Drop, W>(
     rt: &W,
     alloc: Global,
-    hub: &'a Hub<J, R>,
-    desk: Desk,
+    server: &'a Server<B, R>,
+    setup: WorkerSetup,
     acceptor: Acceptor<'a>,
-    posts: &'a [Arc<Post>],
+    handles: &'a [Arc<WorkerHandle>],
 )
 where
     W: Files<File = File> + RandomSource + Wait + Clock,
 {
-    let (mut worker, mut poll, mut events) = Worker::new(alloc, hub, desk, Some(acceptor), posts);
+    let (mut worker, mut poll, mut events) = Worker::new(
+        alloc,
+        server,
+        setup,
+        Some(acceptor),
+        handles,
+    );
     for _ in rt.forever() {
         worker.serve(rt, &mut poll, &mut events);
         worker.accept(rt);
         if worker.is_done(rt) {
-            hub.notes.finish(rt);
+            server.notes.finish(rt);
             return;
         }
     }
 }
 
-impl<'a, J: Naming, R: Wait + Drop> Worker<'a, J, R> {
-    /// The worker at a desk, with what it waits at.
+impl<'a, B: BusBrand, R: Wait + Drop> Worker<'a, B, R> {
+    /// The worker at a setup, with what it waits at.
     fn new(
         alloc: Global,
-        hub: &'a Hub<J, R>,
-        desk: Desk,
+        server: &'a Server<B, R>,
+        setup: WorkerSetup,
         acceptor: Option<Acceptor<'a>>,
-        posts: &'a [Arc<Post>],
-    ) -> (Worker<'a, J, R>, Poll, Events) {
-        let Desk {
+        handles: &'a [Arc<WorkerHandle>],
+    ) -> (Worker<'a, B, R>, Poll, Events) {
+        let WorkerSetup {
             poll,
             events,
-            post,
+            handle,
             scratch,
-        } = desk;
+        } = setup;
         let worker = Worker {
             alloc,
-            hub,
-            post,
+            server,
+            handle,
             connections: Slab::new(alloc),
             scratch,
             first: first_served(&acceptor),
             acceptor,
-            posts,
+            handles,
             last: 0,
             reader: None,
             again: Vec::new(alloc),
-            is_eager: false,
+            has_more_now: false,
             watched: 0,
             looked: None,
             is_ending: false,
@@ -206,14 +216,14 @@ impl<'a, J: Naming, R: Wait + Drop> Worker<'a, J, R> {
                     self.end_all(rt);
                 }
             } else if !self.is_of_endpoint(event.token()) {
-                self.turn(rt, event.token().0, event.is_writable(), has_ended);
+                self.serve_connection(rt, event.token().0, event.is_writable(), has_ended);
             }
         }
     }
 
     /// Whether no more connections come, and all have ended.
     fn is_done<W: Wait + Clock>(&mut self, rt: &W) -> bool {
-        if !self.post.is_finished() {
+        if !self.handle.is_finished() {
             return false;
         }
         // A connection may have been handed over before the word that no more come.
@@ -223,12 +233,12 @@ impl<'a, J: Naming, R: Wait + Drop> Worker<'a, J, R> {
 
     /// How long the poll may wait. An idle bus waits without a limit.
     fn patience(&self) -> Option<Duration> {
-        if self.is_eager {
+        if self.has_more_now {
             Some(Duration::from_millis(0))
         } else if !self.again.is_empty() || self.has_clients_waiting() {
-            Some(Duration::from_millis(MOMENT))
+            Some(Duration::from_millis(HELD_PAUSE))
         } else if self.watched > 0 {
-            Some(Duration::from_millis(GLANCE))
+            Some(Duration::from_millis(OVERDUE_CHECK))
         } else {
             None
         }
@@ -236,26 +246,26 @@ impl<'a, J: Naming, R: Wait + Drop> Worker<'a, J, R> {
 
     /// Takes in the connections that were handed over.
     fn take_in<W: Wait + Clock>(&mut self, rt: &W) {
-        for arrival in self.post.take_arrivals(rt, self.alloc) {
+        for arrival in self.handle.take_arrivals(rt, self.alloc) {
             self.take(rt, arrival);
         }
     }
 
     /// Takes in a connection. Where memory runs out, or the bus ends, it is closed.
     pub(crate) fn take<W: Wait + Clock>(&mut self, rt: &W, arrival: Arrival) {
-        self.hub.retry_rests(rt, self.alloc);
+        self.server.retry_rests(rt, self.alloc);
         if self.is_ending {
-            self.hub.turn_away(rt, Cause::BusEnds);
-        } else if self.welcome(rt, arrival).is_err() {
-            self.hub.turn_away(rt, Cause::MEMORY);
+            self.server.turn_away(rt, Cause::BusEnds);
+        } else if self.register(rt, arrival).is_err() {
+            self.server.turn_away(rt, Cause::MEMORY);
         }
     }
 
-    fn welcome<W: Wait + Clock>(&mut self, rt: &W, arrival: Arrival) -> io::Result<()> {
+    fn register<W: Wait + Clock>(&mut self, rt: &W, arrival: Arrival) -> io::Result<()> {
         self.connections.reserve(1)?;
         let token = Token(self.connections.vacant_key());
-        let post = Arc::try_clone(&self.post)?;
-        let connection = Connection::new(rt, self.alloc, self.hub, arrival, post, token)?;
+        let handle = Arc::try_clone(&self.handle)?;
+        let connection = Connection::new(rt, self.alloc, self.server, arrival, handle, token)?;
         self.connections.insert_reserved(connection);
         self.recount(false, true);
         Ok(())
@@ -263,7 +273,13 @@ impl<'a, J: Naming, R: Wait + Drop> Worker<'a, J, R> {
 
     /// Gives a connection its turn: it writes and reads as far as it goes, to the end where its client's bytes may have
     /// ended.
-    fn turn<W: Wait + Clock>(&mut self, rt: &W, key: usize, has_room: bool, has_ended: bool) {
+    fn serve_connection<W: Wait + Clock>(
+        &mut self,
+        rt: &W,
+        key: usize,
+        has_room: bool,
+        has_ended: bool,
+    ) {
         self.find_reader(rt);
         let Some(connection) = self.connections.get_mut(key) else {
             return;
@@ -273,14 +289,14 @@ impl<'a, J: Naming, R: Wait + Drop> Worker<'a, J, R> {
         }
         let was_watched = connection.is_watched();
         connection.lend(self.reader.take());
-        let turn = connection.read(rt, self.alloc, self.hub, &mut self.scratch, has_ended);
+        let turn = connection.read(rt, self.alloc, self.server, &mut self.scratch, has_ended);
         self.reader = connection.reclaim();
         let is_watched = connection.is_watched();
         self.recount(was_watched, is_watched);
         match turn {
             Turn::Waits => {}
             Turn::Again => {
-                self.is_eager = true;
+                self.has_more_now = true;
                 self.call_again(rt, key);
             }
             Turn::Held => self.call_again(rt, key),
@@ -292,7 +308,7 @@ impl<'a, J: Naming, R: Wait + Drop> Worker<'a, J, R> {
     /// Has a reader to lend, if the last one went with a connection that ended.
     fn find_reader<W: Wait>(&mut self, rt: &W) {
         if self.reader.is_none() {
-            self.reader = self.hub.bus.reader(rt).ok();
+            self.reader = self.server.bus.reader(rt).ok();
         }
     }
 
@@ -305,9 +321,9 @@ impl<'a, J: Naming, R: Wait + Drop> Worker<'a, J, R> {
 
     /// Gives another turn to those that had more to read, or were held.
     fn go_on<W: Wait + Clock>(&mut self, rt: &W) {
-        self.is_eager = false;
+        self.has_more_now = false;
         for key in mem::replace(&mut self.again, Vec::new(self.alloc)) {
-            self.turn(rt, key, false, true);
+            self.serve_connection(rt, key, false, true);
         }
     }
 
@@ -336,10 +352,10 @@ impl<'a, J: Naming, R: Wait + Drop> Worker<'a, J, R> {
             return None;
         }
         let now = Instant::now(rt).ok()?;
-        let glance = Duration::from_millis(GLANCE);
+        let probe = Duration::from_millis(OVERDUE_CHECK);
         if self
             .looked
-            .is_some_and(|looked| now.duration_since(looked) < glance)
+            .is_some_and(|looked| now.duration_since(looked) < probe)
         {
             return None;
         }
@@ -350,7 +366,7 @@ impl<'a, J: Naming, R: Wait + Drop> Worker<'a, J, R> {
     /// One that is overdue, and by which limit.
     fn overdue_one(&self, now: Instant) -> Option<(usize, Limit)> {
         for (key, connection) in self.connections.iter() {
-            if let Some(limit) = connection.overdue(now, &self.hub.limits) {
+            if let Some(limit) = connection.overdue(now, &self.server.limits) {
                 return Some((key, limit));
             }
         }
@@ -375,19 +391,19 @@ impl<'a, J: Naming, R: Wait + Drop> Worker<'a, J, R> {
             return;
         };
         self.recount(connection.is_watched(), false);
-        if !connection.is_in && !self.hub.newcomers.leave(rt, connection.ticket) {
+        if !connection.is_in && !self.server.newcomers.leave(rt, connection.ticket) {
             cause = Some(Cause::Limit(Limit::Newcomers));
         }
         let number = connection.number();
         self.find_reader(rt);
         connection.lend(self.reader.take());
-        let link = connection.end(rt, self.alloc, self.hub, &mut self.scratch.aids.lists);
+        let link = connection.end(rt, self.alloc, self.server, &mut self.scratch.aids.lists);
         if let Some(number) = number {
-            self.hub.clients.leave(rt, number);
+            self.server.clients.leave(rt, number);
         }
         close(link);
         if let Some(note) = Note::of_end(number, cause) {
-            self.hub.notes.leave(rt, note);
+            self.server.notes.leave(rt, note);
         }
     }
 }

@@ -10,7 +10,7 @@ use crate::greeting::greet;
 use crossbeam_utils::rule::Protocol;
 use message_view::View;
 use peers::{
-    AllInstructions, AnswerError, Command, Context, Identity, Mailbox, Naming, OwnOutbox, Peer,
+    AllInstructions, AnswerError, BusBrand, Command, Context, Identity, Mailbox, OwnOutbox, Peer,
     Published, RouteLists, Shown, StateReader,
 };
 use std::collections::LinkedList;
@@ -19,7 +19,7 @@ use std::sync::{Arc, Wait};
 
 /// A client: its outbox before Hello, then its peer, which has the outbox. Contracts see which outbox it is, and the peer.
 #[derive(Drop)]
-pub(crate) struct Client<B: Naming, M: Mailbox>
+pub(crate) struct Client<B: BusBrand, M: Mailbox>
 where
     Published: Protocol<Shown<B, M>, LinkedList<Command<M>>>,
 {
@@ -32,7 +32,7 @@ where
     reader: Option<StateReader<B, M>>,
 }
 
-impl<B: Naming, M: Mailbox> Model for Client<B, M>
+impl<B: BusBrand, M: Mailbox> Model for Client<B, M>
 where
     Published: Protocol<Shown<B, M>, LinkedList<Command<M>>>,
 {
@@ -47,7 +47,7 @@ where
     ghost invariant = { λ c. (is_some c.own ≡ true → c.peer ≡ None) × (is_some c.peer ≡ true → c.own ≡ None) };
 }
 
-impl<B: Naming, M: Mailbox> Client<B, M> {
+impl<B: BusBrand, M: Mailbox> Client<B, M> {
     /// A client that has said nothing. All that it gets goes to the mailbox.
     pub(crate) fn new(mailbox: M, identity: Identity) -> Client<B, M>
         ensures { result ≡ record { outbox = Some (M.outbox_of mailbox); peer = None } }

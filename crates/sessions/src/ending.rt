@@ -5,7 +5,7 @@ ghost use Rattle.sessions.specs.Ends.{Ends};
 
 use crossbeam_utils::rule::Protocol;
 use peers::{
-    Bus, Command, Context, Leaving, Mailbox, Naming, Peer, Published, RouteLists, Shown,
+    Bus, BusBrand, Command, Context, Leaving, Mailbox, Peer, Published, RouteLists, Shown,
     StateReader,
 };
 use std::alloc::Global;
@@ -15,14 +15,14 @@ use std::sync::Wait;
 
 /// What is left of a session whose end was refused memory: its peer is still on the bus. Contracts see the peer.
 #[derive(Drop)]
-pub struct Rest<B: Naming, M: Mailbox>
+pub struct Rest<B: BusBrand, M: Mailbox>
 where
     Published: Protocol<Shown<B, M>, LinkedList<Command<M>>>,
 {
     peer: Peer<B, M>,
 }
 
-impl<B: Naming, M: Mailbox> Model for Rest<B, M>
+impl<B: BusBrand, M: Mailbox> Model for Rest<B, M>
 where
     Published: Protocol<Shown<B, M>, LinkedList<Command<M>>>,
 {
@@ -33,7 +33,7 @@ where
     ghost view = { λ r. r.peer };
 }
 
-impl<B: Naming, M: Mailbox> Rest<B, M> {
+impl<B: BusBrand, M: Mailbox> Rest<B, M> {
     /// Announces by this reader what the end changes.
     pub fn lend(&mut self, reader: StateReader<B, M>)
         ensures { self.new ≡ self.old }
@@ -64,7 +64,7 @@ impl<B: Naming, M: Mailbox> Rest<B, M> {
 }
 
 /// Takes a peer off the bus. Answers what is left of it if memory was refused.
-pub(crate) fn end<B: Naming, M: Mailbox, W: Wait, R: Wait + Drop>(
+pub(crate) fn end<B: BusBrand, M: Mailbox, W: Wait, R: Wait + Drop>(
     mut peer: Peer<B, M>,
     context: &Context<'_, B, M, W, R>,
     lists: &mut RouteLists,

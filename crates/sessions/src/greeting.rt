@@ -13,7 +13,7 @@ use crate::error::SessionError;
 use bus_messages::Call;
 use message_view::View;
 use peers::{
-    AnswerError, BUS_NAME, BusError, Context, Identity, Mailbox, Naming, OwnOutbox, Pass, Peer,
+    AnswerError, BUS_NAME, BusBrand, BusError, Context, Identity, Mailbox, OwnOutbox, Pass, Peer,
     Refused, Request, RouteLists, StateReader, is_for_bus, join, put_refusal,
 };
 use std::sync::Wait;
@@ -25,7 +25,7 @@ use std::sync::Wait;
 ///
 /// `NoHello` if the message isn't the call Hello, and if Hello is refused, which is answered with the error; `Slow`;
 /// `NoMemory`.
-pub(crate) fn greet<B: Naming, M: Mailbox, W: Wait, R: Wait + Drop>(
+pub(crate) fn greet<B: BusBrand, M: Mailbox, W: Wait, R: Wait + Drop>(
     context: &Context<'_, B, M, W, R>,
     lists: &mut RouteLists,
     lent: &mut Option<StateReader<B, M>>,
@@ -47,7 +47,7 @@ pub(crate) fn greet<B: Naming, M: Mailbox, W: Wait, R: Wait + Drop>(
 }
 
 // Lets a client in that has said Hello. Nobody is answered before its name is announced, since the lock of the bus is kept.
-fn let_in<B: Naming, M: Mailbox, W: Wait, R: Wait + Drop>(
+fn let_in<B: BusBrand, M: Mailbox, W: Wait, R: Wait + Drop>(
     context: &Context<'_, B, M, W, R>,
     lists: &mut RouteLists,
     mut pass: Pass<B, M>,
@@ -77,7 +77,7 @@ fn let_in<B: Naming, M: Mailbox, W: Wait, R: Wait + Drop>(
 }
 
 // Answers a Hello that is refused, and says why the session ends.
-fn turn_away<B: Naming, M: Mailbox, W: Wait, R: Wait + Drop>(
+fn turn_away<B: BusBrand, M: Mailbox, W: Wait, R: Wait + Drop>(
     context: &Context<'_, B, M, W, R>,
     mut own: OwnOutbox<M>,
     view: &View<'_>,
@@ -120,7 +120,7 @@ fn names_hello(view: &View<'_>) -> bool
 }
 
 // A pass for a client that says Hello.
-fn pass_for<B: Naming, M: Mailbox, W: Wait, R: Wait + Drop>(
+fn pass_for<B: BusBrand, M: Mailbox, W: Wait, R: Wait + Drop>(
     context: &Context<'_, B, M, W, R>,
     lent: &mut Option<StateReader<B, M>>,
     view: &View<'_>,
@@ -132,7 +132,7 @@ fn pass_for<B: Naming, M: Mailbox, W: Wait, R: Wait + Drop>(
 }
 
 // A pass that did nothing, with the reader that is lent, or else with its own.
-fn new_pass<B: Naming, M: Mailbox, W: Wait, R: Wait + Drop>(
+fn new_pass<B: BusBrand, M: Mailbox, W: Wait, R: Wait + Drop>(
     context: &Context<'_, B, M, W, R>,
     lent: &mut Option<StateReader<B, M>>,
 ) -> Result<Pass<B, M>, BusError>

@@ -26,6 +26,6 @@ pub use step::Step;
 
 // Passed on from the crates below, so that the crates above need not name those in crates.txt.
 pub use peers::{
-    AllInstructions, Bus, Capacity, Command, Identity, IndexKey, Letterbox, Naming, Opened,
+    AllInstructions, Bus, BusBrand, Capacity, Command, Identity, IndexKey, Opened, PlainMailbox,
     Published, RouteLists, Shares, Shown, StateReader,
 };

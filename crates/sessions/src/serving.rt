@@ -5,7 +5,7 @@ use crate::error::SessionError;
 use crate::session::Session;
 use crate::step::Step;
 use crate::writing::Writing;
-use peers::{Bus, Letterbox, Naming, RouteLists, Shares};
+use peers::{Bus, BusBrand, PlainMailbox, RouteLists, Shares};
 use routing::Mailbox;
 use std::alloc::{AllocError, Global};
 use std::io::{ErrorKind, Read, Write};
@@ -22,14 +22,14 @@ const READ_LEN: usize = 4096;
 ///
 /// Those of a session. A fault of the writer ends the session at once before BEGIN; after it the session goes on
 /// reading to the end of its input, and then answers `Write`, whatever ended it.
-pub fn serve_one<B: Naming, W: Wait, R: Wait + Drop, I: Read + Drop, O: Write + Drop>(
+pub fn serve_one<B: BusBrand, W: Wait, R: Wait + Drop, I: Read + Drop, O: Write + Drop>(
     rt: &W,
     alloc: Global,
-    bus: &Bus<B, Letterbox, R>,
+    bus: &Bus<B, PlainMailbox, R>,
     guid: [u8; 32],
     mut reader: I,
     writer: O,
-) -> (Result<(), SessionError>, Option<Rest<B, Letterbox>>) {
+) -> (Result<(), SessionError>, Option<Rest<B, PlainMailbox>>) {
     let Ok((mut session, mut writing)) = open_session(alloc, guid, writer) else {
         return (Err(SessionError::NoMemory), None);
     };
@@ -45,22 +45,22 @@ pub fn serve_one<B: Naming, W: Wait, R: Wait + Drop, I: Read + Drop, O: Write + 
 }
 
 /// A session with an outbox of its own, and what writes that out.
-fn open_session<B: Naming, O: Write + Drop>(
+fn open_session<B: BusBrand, O: Write + Drop>(
     alloc: Global,
     guid: [u8; 32],
     writer: O,
-) -> Result<(Session<B, Letterbox>, Writing<O>), AllocError> {
-    let letterbox = Letterbox::new(alloc)?;
+) -> Result<(Session<B, PlainMailbox>, Writing<O>), AllocError> {
+    let letterbox = PlainMailbox::new(alloc)?;
     let writing = Writing::new(letterbox.outbox(), writer)?;
     Ok((Session::new(alloc, guid, letterbox), writing))
 }
 
 /// Reads to the end of the input, or to what ends the session before it.
-fn read_to_end<B: Naming, W: Wait, R: Wait + Drop, I: Read, O: Write + Drop>(
+fn read_to_end<B: BusBrand, W: Wait, R: Wait + Drop, I: Read, O: Write + Drop>(
     rt: &W,
     alloc: Global,
-    bus: &Bus<B, Letterbox, R>,
-    session: &mut Session<B, Letterbox>,
+    bus: &Bus<B, PlainMailbox, R>,
+    session: &mut Session<B, PlainMailbox>,
     writing: &mut Writing<O>,
     reader: &mut I,
 ) -> Result<(), SessionError> {
@@ -83,11 +83,11 @@ fn read_to_end<B: Naming, W: Wait, R: Wait + Drop, I: Read, O: Write + Drop>(
 }
 
 /// Treats each whole line or message that was read, and writes what stands in the outbox after each.
-fn treat_all<B: Naming, W: Wait, R: Wait + Drop, O: Write + Drop>(
+fn treat_all<B: BusBrand, W: Wait, R: Wait + Drop, O: Write + Drop>(
     rt: &W,
     alloc: Global,
-    bus: &Bus<B, Letterbox, R>,
-    session: &mut Session<B, Letterbox>,
+    bus: &Bus<B, PlainMailbox, R>,
+    session: &mut Session<B, PlainMailbox>,
     writing: &mut Writing<O>,
 ) -> Result<(), SessionError> {
     let mut lists = RouteLists::new();

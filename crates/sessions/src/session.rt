@@ -17,7 +17,7 @@ use crossbeam_utils::rule::Protocol;
 use frames::Frames;
 use message_view::{MsgError, View};
 use peers::{
-    AllInstructions, Bus, Command, Context, Identity, Mailbox, Naming, Published, RouteLists,
+    AllInstructions, Bus, BusBrand, Command, Context, Identity, Mailbox, Published, RouteLists,
     Shares, Shown, StateReader,
 };
 use std::alloc::Global;
@@ -32,7 +32,7 @@ const METHOD_CALL: u8 = 1;
 /// its client, waits in the outbox of its mailbox. Contracts see where the talk stands, the bytes that wait to be handled,
 /// the client's outbox before Hello, the client's peer, and why the session ends.
 #[derive(Drop)]
-pub struct Session<B: Naming, M: Mailbox>
+pub struct Session<B: BusBrand, M: Mailbox>
 where
     Published: Protocol<Shown<B, M>, LinkedList<Command<M>>>,
 {
@@ -43,7 +43,7 @@ where
     fault: Option<SessionError>,
 }
 
-impl<B: Naming, M: Mailbox> Model for Session<B, M>
+impl<B: BusBrand, M: Mailbox> Model for Session<B, M>
 where
     Published: Protocol<Shown<B, M>, LinkedList<Command<M>>>,
 {
@@ -58,7 +58,7 @@ where
     ghost invariant = { λ s. s.input.fault ≡ None };
 }
 
-impl<B: Naming, M: Mailbox> Session<B, M> {
+impl<B: BusBrand, M: Mailbox> Session<B, M> {
     /// A session before its first byte, of a bus with this GUID. It admits EXTERNAL for anybody, and ANONYMOUS. All that
     /// it says goes to the mailbox.
     pub fn new(alloc: Global, guid: [u8; 32], mailbox: M) -> Session<B, M>

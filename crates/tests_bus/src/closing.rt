@@ -6,8 +6,8 @@ use crate::fixture::{new_bus, read_message, s1_bytes};
 use crate::letters::{
     attach_to_all, connect, connect_with, expect_letters, new_letterbox, route_s1,
 };
-use published::{Naming, Opened};
-use router::{Bus, Letterbox, Pass, Source};
+use published::{BusBrand, Opened};
+use router::{Bus, Pass, PlainMailbox, Source};
 use routing::Gate;
 use std::alloc::Global;
 use std::cell::Cell;
@@ -18,14 +18,14 @@ use std::sync::Wait;
 
 /// A gate that closes a pass before the first put.
 #[derive(Drop)]
-struct Closing<'a, J: Naming, W: Wait, R: Wait + Drop> {
+struct Closing<'a, B: BusBrand, W: Wait, R: Wait + Drop> {
     rt: &'a W,
-    bus: &'a Bus<J, Letterbox, R>,
-    pass: Cell<Option<Pass<J, Letterbox>>>,
+    bus: &'a Bus<B, PlainMailbox, R>,
+    pass: Cell<Option<Pass<B, PlainMailbox>>>,
     closed: Cell<bool>,
 }
 
-impl<J: Naming, W: Wait, R: Wait + Drop> Gate for Closing<'_, J, W, R> {
+impl<B: BusBrand, W: Wait, R: Wait + Drop> Gate for Closing<'_, B, W, R> {
     fn before(&self, _piece: u32) {
         if let Some(mut pass) = self.pass.replace(None) {
             self.closed.set(self.bus.close(self.rt, &mut pass).is_ok());
@@ -37,13 +37,17 @@ impl<J: Naming, W: Wait, R: Wait + Drop> Gate for Closing<'_, J, W, R> {
 
 #[test]
 fn closed_between(rt: HostRuntime) {
-    route_and_close::<Brand, _>(&rt, rt.alloc(), Opened::<Letterbox>::new());
+    route_and_close::<Brand, _>(&rt, rt.alloc(), Opened::<PlainMailbox>::new());
 }
 
-fn route_and_close<J: Naming, R: Wait + Abort>(rt: &R, alloc: Global, opened: Opened<Letterbox>)
-    requires { opened ≡ J.book }
+fn route_and_close<B: BusBrand, R: Wait + Abort>(
+    rt: &R,
+    alloc: Global,
+    opened: Opened<PlainMailbox>,
+)
+    requires { opened ≡ B.book }
 {
-    let bus = new_bus::<J, R>(rt, alloc, opened);
+    let bus = new_bus::<B, R>(rt, alloc, opened);
     let stays = new_letterbox(rt, alloc);
     let goes = new_letterbox(rt, alloc);
     let mut one = connect(rt, alloc, &bus);
@@ -65,12 +69,12 @@ fn route_and_close<J: Naming, R: Wait + Abort>(rt: &R, alloc: Global, opened: Op
 }
 
 // Nobody refuses the broadcast: `close` doesn't touch the outbox.
-fn close_between<J: Naming, R: Wait + Abort>(
+fn close_between<B: BusBrand, R: Wait + Abort>(
     rt: &R,
     alloc: Global,
-    bus: &Bus<J, Letterbox, &R>,
-    pass: &mut Pass<J, Letterbox>,
-    other: Pass<J, Letterbox>,
+    bus: &Bus<B, PlainMailbox, &R>,
+    pass: &mut Pass<B, PlainMailbox>,
+    other: Pass<B, PlainMailbox>,
 ) {
     let gate = Closing {
         rt,

@@ -4,8 +4,8 @@ ghost use Rattle.std.specs.Prelude.{◌≡◌};
 
 use crate::fixture::{expect_recipients, name_a, new_bus, read_message, s1_bytes};
 use crate::letters::connect;
-use published::{Naming, Opened};
-use router::{BusError, Letterbox, Pass, RouteLists, Source};
+use published::{BusBrand, Opened};
+use router::{BusError, Pass, PlainMailbox, RouteLists, Source};
 use std::alloc::Global;
 use std::marker::Brand;
 use std::mem::forget;
@@ -14,33 +14,37 @@ use std::sync::Wait;
 
 #[test]
 fn bus_is_gone(rt: HostRuntime) {
-    look_after_the_end::<Brand, _>(&rt, rt.alloc(), Opened::<Letterbox>::new());
+    look_after_the_end::<Brand, _>(&rt, rt.alloc(), Opened::<PlainMailbox>::new());
 }
 
-fn look_after_the_end<J: Naming, R: Wait + Abort>(rt: &R, alloc: Global, opened: Opened<Letterbox>)
-    requires { opened ≡ J.book }
+fn look_after_the_end<B: BusBrand, R: Wait + Abort>(
+    rt: &R,
+    alloc: Global,
+    opened: Opened<PlainMailbox>,
+)
+    requires { opened ≡ B.book }
 {
-    let mut pass = survivor::<J, R>(rt, alloc, opened);
+    let mut pass = survivor::<B, R>(rt, alloc, opened);
     expect_end(rt, alloc, &mut pass);
     forget(pass);
 }
 
 // A pass whose bus has ended after it was read.
-fn survivor<J: Naming, R: Wait + Abort>(
+fn survivor<B: BusBrand, R: Wait + Abort>(
     rt: &R,
     alloc: Global,
-    opened: Opened<Letterbox>,
-) -> Pass<J, Letterbox>
-    requires { opened ≡ J.book }
+    opened: Opened<PlainMailbox>,
+) -> Pass<B, PlainMailbox>
+    requires { opened ≡ B.book }
 {
-    let bus = new_bus::<J, R>(rt, alloc, opened);
+    let bus = new_bus::<B, R>(rt, alloc, opened);
     let mut pass = connect(rt, alloc, &bus);
     expect_recipients(rt, &mut pass, &[]);
     pass
 }
 
 // Each look at the published state is Closed.
-fn expect_end<J: Naming, R: Abort>(rt: &R, alloc: Global, pass: &mut Pass<J, Letterbox>) {
+fn expect_end<B: BusBrand, R: Abort>(rt: &R, alloc: Global, pass: &mut Pass<B, PlainMailbox>) {
     let bytes = s1_bytes();
     let view = read_message(rt, bytes.as_slice());
     let found = pass.recipients(Source::Bus, &view);

@@ -10,8 +10,8 @@ use entry_table::IndexKey;
 use message_view::View;
 use owners::{Change, NameReply, Named, WellKnown};
 use program_table::Reply;
-use published::{Naming, Opened};
-use router::{Bus, BusError, Letterbox, Pass, RouteLists, Source};
+use published::{BusBrand, Opened};
+use router::{Bus, BusError, Pass, PlainMailbox, RouteLists, Source};
 use std::alloc::Global;
 use std::process::Abort;
 use std::sync::Wait;
@@ -56,22 +56,22 @@ fn read_name<R: Abort>(rt: &R, text: &str) -> WellKnown {
 }
 
 /// A bus to which nobody is connected.
-pub(crate) fn new_bus<J: Naming, R: Wait + Abort>(
+pub(crate) fn new_bus<B: BusBrand, R: Wait + Abort>(
     rt: &R,
     alloc: Global,
-    opened: Opened<Letterbox>,
-) -> Bus<J, Letterbox, &R>
-    requires { opened ≡ J.book }
+    opened: Opened<PlainMailbox>,
+) -> Bus<B, PlainMailbox, &R>
+    requires { opened ≡ B.book }
 {
     Bus::new(rt, alloc, KEY, opened).expect(rt, "a bus")
 }
 
 /// A pass with the next connection.
-pub(crate) fn connect_pass<J: Naming, R: Wait + Abort>(
+pub(crate) fn connect_pass<B: BusBrand, R: Wait + Abort>(
     rt: &R,
-    bus: &Bus<J, Letterbox, &R>,
-    letterbox: Letterbox,
-) -> Pass<J, Letterbox> {
+    bus: &Bus<B, PlainMailbox, &R>,
+    letterbox: PlainMailbox,
+) -> Pass<B, PlainMailbox> {
     let mut pass = bus.pass(rt).expect(rt, "a pass");
     let _ = bus
         .connect(rt, &mut pass, letterbox)
@@ -107,11 +107,11 @@ pub(crate) fn expect_error<R: Abort>(rt: &R, answer: Result<Reply, BusError>, wa
 }
 
 /// Adds a rule, which is the entry of this id then.
-pub(crate) fn add_rule<J: Naming, R: Wait + Abort>(
+pub(crate) fn add_rule<B: BusBrand, R: Wait + Abort>(
     rt: &R,
     alloc: Global,
-    bus: &Bus<J, Letterbox, &R>,
-    pass: &mut Pass<J, Letterbox>,
+    bus: &Bus<B, PlainMailbox, &R>,
+    pass: &mut Pass<B, PlainMailbox>,
     rule: &str,
     id: u32,
 ) {
@@ -120,10 +120,10 @@ pub(crate) fn add_rule<J: Naming, R: Wait + Abort>(
 }
 
 /// Asks for a name, whose primary owner the connection `new` then is, after `old`.
-pub(crate) fn own<J: Naming, R: Wait + Abort>(
+pub(crate) fn own<B: BusBrand, R: Wait + Abort>(
     rt: &R,
-    bus: &Bus<J, Letterbox, &R>,
-    pass: &mut Pass<J, Letterbox>,
+    bus: &Bus<B, PlainMailbox, &R>,
+    pass: &mut Pass<B, PlainMailbox>,
     name: &WellKnown,
     flags: u32,
     old: Option<u64>,
@@ -134,18 +134,18 @@ pub(crate) fn own<J: Naming, R: Wait + Abort>(
 }
 
 /// Closes the connection.
-pub(crate) fn close<J: Naming, R: Wait + Abort>(
+pub(crate) fn close<B: BusBrand, R: Wait + Abort>(
     rt: &R,
-    bus: &Bus<J, Letterbox, &R>,
-    pass: &mut Pass<J, Letterbox>,
+    bus: &Bus<B, PlainMailbox, &R>,
+    pass: &mut Pass<B, PlainMailbox>,
 ) {
     expect_reply(rt, bus.close(rt, pass), Reply::Done);
 }
 
 /// The recipients of S1 as a broadcast of the pass.
-pub(crate) fn expect_recipients<J: Naming, R: Abort>(
+pub(crate) fn expect_recipients<B: BusBrand, R: Abort>(
     rt: &R,
-    pass: &mut Pass<J, Letterbox>,
+    pass: &mut Pass<B, PlainMailbox>,
     wanted: &[u64],
 ) {
     let bytes = s1_bytes();
@@ -153,9 +153,9 @@ pub(crate) fn expect_recipients<J: Naming, R: Abort>(
 }
 
 /// The recipients of a broadcast of this source, whose bytes these are, given back and listed in lists that are lent.
-pub(crate) fn expect_recipients_of<J: Naming, R: Abort>(
+pub(crate) fn expect_recipients_of<B: BusBrand, R: Abort>(
     rt: &R,
-    pass: &mut Pass<J, Letterbox>,
+    pass: &mut Pass<B, PlainMailbox>,
     source: Source,
     bytes: &[u8],
     wanted: &[u64],

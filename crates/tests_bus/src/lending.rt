@@ -4,8 +4,8 @@ ghost use Rattle.std.specs.Prelude.{◌≡◌};
 
 use crate::fixture::{KEY, close};
 use crate::letters::new_letterbox;
-use published::{Naming, Opened};
-use router::{Bus, BusError, Capacity, Letterbox, Pass};
+use published::{BusBrand, Opened};
+use router::{Bus, BusError, Capacity, Pass, PlainMailbox};
 use std::alloc::Global;
 use std::marker::Brand;
 use std::mem::forget;
@@ -14,14 +14,14 @@ use std::sync::Wait;
 
 #[test]
 fn one_reader_for_two(rt: HostRuntime) {
-    lend_in_turn::<Brand, _>(&rt, rt.alloc(), Opened::<Letterbox>::new());
+    lend_in_turn::<Brand, _>(&rt, rt.alloc(), Opened::<PlainMailbox>::new());
 }
 
 // A bus with one place for a reader.
-fn lend_in_turn<J: Naming, R: Wait + Abort>(rt: &R, alloc: Global, opened: Opened<Letterbox>)
-    requires { opened ≡ J.book }
+fn lend_in_turn<B: BusBrand, R: Wait + Abort>(rt: &R, alloc: Global, opened: Opened<PlainMailbox>)
+    requires { opened ≡ B.book }
 {
-    let bus = Bus::<J, Letterbox, &R>::with_capacity(
+    let bus = Bus::<B, PlainMailbox, &R>::with_capacity(
         rt,
         alloc,
         KEY,
@@ -49,29 +49,29 @@ fn lend_in_turn<J: Naming, R: Wait + Abort>(rt: &R, alloc: Global, opened: Opene
 }
 
 // A connected pass without a reader.
-fn connect<J: Naming, R: Wait + Abort>(
+fn connect<B: BusBrand, R: Wait + Abort>(
     rt: &R,
     alloc: Global,
-    bus: &Bus<J, Letterbox, &R>,
-) -> Pass<J, Letterbox> {
+    bus: &Bus<B, PlainMailbox, &R>,
+) -> Pass<B, PlainMailbox> {
     let mut pass = bus.pass_without_reader(rt);
     let connected = bus.connect(rt, &mut pass, new_letterbox(rt, alloc));
     assert!(rt; connected.is_ok());
     pass
 }
 
-fn expect_both<J: Naming, R: Abort>(rt: &R, pass: &mut Pass<J, Letterbox>) {
+fn expect_both<B: BusBrand, R: Abort>(rt: &R, pass: &mut Pass<B, PlainMailbox>) {
     assert_eq!(rt; pass.is_connected(1), Ok(true));
     assert_eq!(rt; pass.is_connected(2), Ok(true));
 }
 
-fn expect_closed<J: Naming, R: Abort>(rt: &R, pass: &mut Pass<J, Letterbox>) {
+fn expect_closed<B: BusBrand, R: Abort>(rt: &R, pass: &mut Pass<B, PlainMailbox>) {
     assert!(rt; !pass.has_reader());
     assert_eq!(rt; pass.is_connected(1), Err(BusError::Closed));
 }
 
 // There is no place for a further reader.
-fn expect_busy<J: Naming, R: Wait + Abort>(rt: &R, bus: &Bus<J, Letterbox, &R>) {
+fn expect_busy<B: BusBrand, R: Wait + Abort>(rt: &R, bus: &Bus<B, PlainMailbox, &R>) {
     match bus.pass(rt) {
         Ok(pass) => {
             forget(pass);

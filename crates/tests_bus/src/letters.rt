@@ -4,8 +4,8 @@ use crate::fixture::{connect_pass, read_message, s1_bytes};
 use crate::outboxes::take_all;
 use bpf_code::Ins;
 use program_table::Handle;
-use published::Naming;
-use router::{Bus, Letterbox, Pass, Sent, Source};
+use published::BusBrand;
+use router::{Bus, Pass, PlainMailbox, Sent, Source};
 use routing::Mailbox;
 use std::alloc::Global;
 use std::mem::forget;
@@ -13,25 +13,25 @@ use std::process::Abort;
 use std::sync::Wait;
 use summary::Edition;
 
-pub(crate) fn new_letterbox<R: Abort>(rt: &R, alloc: Global) -> Letterbox {
-    Letterbox::new(alloc).expect(rt, "a letterbox")
+pub(crate) fn new_letterbox<R: Abort>(rt: &R, alloc: Global) -> PlainMailbox {
+    PlainMailbox::new(alloc).expect(rt, "a letterbox")
 }
 
 /// A pass with the next connection, into whose letterbox no test looks.
-pub(crate) fn connect<J: Naming, R: Wait + Abort>(
+pub(crate) fn connect<B: BusBrand, R: Wait + Abort>(
     rt: &R,
     alloc: Global,
-    bus: &Bus<J, Letterbox, &R>,
-) -> Pass<J, Letterbox> {
+    bus: &Bus<B, PlainMailbox, &R>,
+) -> Pass<B, PlainMailbox> {
     connect_pass(rt, bus, new_letterbox(rt, alloc))
 }
 
 /// A pass with the next connection, whose messages go to the letterbox.
-pub(crate) fn connect_with<J: Naming, R: Wait + Abort>(
+pub(crate) fn connect_with<B: BusBrand, R: Wait + Abort>(
     rt: &R,
-    bus: &Bus<J, Letterbox, &R>,
-    letterbox: &Letterbox,
-) -> Pass<J, Letterbox> {
+    bus: &Bus<B, PlainMailbox, &R>,
+    letterbox: &PlainMailbox,
+) -> Pass<B, PlainMailbox> {
     let mailbox = letterbox.share().expect(rt, "a share");
     connect_pass(rt, bus, mailbox)
 }
@@ -50,11 +50,11 @@ fn return_one<R: Abort>(rt: &R, alloc: Global) -> Vec<Ins> {
 }
 
 /// Attaches the program `ret #1`, which matches each broadcast.
-pub(crate) fn attach_to_all<J: Naming, R: Wait + Abort>(
+pub(crate) fn attach_to_all<B: BusBrand, R: Wait + Abort>(
     rt: &R,
     alloc: Global,
-    bus: &Bus<J, Letterbox, &R>,
-    pass: &mut Pass<J, Letterbox>,
+    bus: &Bus<B, PlainMailbox, &R>,
+    pass: &mut Pass<B, PlainMailbox>,
 ) {
     let program = return_one(rt, alloc);
     let attached = bus.attach(rt, alloc, pass, Edition::Two, program);
@@ -62,11 +62,11 @@ pub(crate) fn attach_to_all<J: Naming, R: Wait + Abort>(
 }
 
 /// Routes S1 as the pass's own broadcast, which exactly these recipients refuse.
-pub(crate) fn route_s1<J: Naming, R: Wait + Abort>(
+pub(crate) fn route_s1<B: BusBrand, R: Wait + Abort>(
     rt: &R,
     alloc: Global,
-    bus: &Bus<J, Letterbox, &R>,
-    pass: &mut Pass<J, Letterbox>,
+    bus: &Bus<B, PlainMailbox, &R>,
+    pass: &mut Pass<B, PlainMailbox>,
     refusing: &[u64],
 ) {
     let bytes = s1_bytes();
@@ -78,11 +78,11 @@ pub(crate) fn route_s1<J: Naming, R: Wait + Abort>(
 }
 
 /// Sends S1 to a name.
-pub(crate) fn send_s1<J: Naming, R: Wait + Abort>(
+pub(crate) fn send_s1<B: BusBrand, R: Wait + Abort>(
     rt: &R,
     alloc: Global,
-    bus: &Bus<J, Letterbox, &R>,
-    pass: &mut Pass<J, Letterbox>,
+    bus: &Bus<B, PlainMailbox, &R>,
+    pass: &mut Pass<B, PlainMailbox>,
     to: &str,
     wanted: Sent,
 ) {
@@ -97,7 +97,7 @@ pub(crate) fn send_s1<J: Naming, R: Wait + Abort>(
 pub(crate) fn expect_letters<R: Wait + Abort>(
     rt: &R,
     alloc: Global,
-    letterbox: &Letterbox,
+    letterbox: &PlainMailbox,
     count: usize,
 ) {
     let items = take_all(rt, alloc, letterbox.outbox());

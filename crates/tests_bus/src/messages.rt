@@ -7,8 +7,8 @@ use crate::letters::{
     attach_to_all, connect, connect_with, expect_letters, new_letterbox, route_s1, send_s1,
 };
 use outbox::ROOM;
-use published::{Naming, Opened};
-use router::{Bus, Letterbox, Pass, Sent};
+use published::{BusBrand, Opened};
+use router::{Bus, Pass, PlainMailbox, Sent};
 use std::alloc::Global;
 use std::marker::Brand;
 use std::mem::forget;
@@ -17,13 +17,17 @@ use std::sync::Wait;
 
 #[test]
 fn own_recipient_once(rt: HostRuntime) {
-    route_to_itself::<Brand, _>(&rt, rt.alloc(), Opened::<Letterbox>::new());
+    route_to_itself::<Brand, _>(&rt, rt.alloc(), Opened::<PlainMailbox>::new());
 }
 
-fn route_to_itself<J: Naming, R: Wait + Abort>(rt: &R, alloc: Global, opened: Opened<Letterbox>)
-    requires { opened ≡ J.book }
+fn route_to_itself<B: BusBrand, R: Wait + Abort>(
+    rt: &R,
+    alloc: Global,
+    opened: Opened<PlainMailbox>,
+)
+    requires { opened ≡ B.book }
 {
-    let bus = new_bus::<J, R>(rt, alloc, opened);
+    let bus = new_bus::<B, R>(rt, alloc, opened);
     let letterbox = new_letterbox(rt, alloc);
     let mut pass = connect_with(rt, &bus, &letterbox);
     expect_reach(rt, &mut pass, false);
@@ -40,7 +44,7 @@ fn route_to_itself<J: Naming, R: Wait + Abort>(rt: &R, alloc: Global, opened: Op
 }
 
 // Whether S1 is for anybody.
-fn expect_reach<J: Naming, R: Abort>(rt: &R, pass: &mut Pass<J, Letterbox>, wanted: bool) {
+fn expect_reach<B: BusBrand, R: Abort>(rt: &R, pass: &mut Pass<B, PlainMailbox>, wanted: bool) {
     let bytes = s1_bytes();
     let view = read_message(rt, bytes.as_slice());
     assert_eq!(rt;
@@ -51,13 +55,13 @@ fn expect_reach<J: Naming, R: Abort>(rt: &R, pass: &mut Pass<J, Letterbox>, want
 
 #[test]
 fn unicast_by_names(rt: HostRuntime) {
-    own_and_send::<Brand, _>(&rt, rt.alloc(), Opened::<Letterbox>::new());
+    own_and_send::<Brand, _>(&rt, rt.alloc(), Opened::<PlainMailbox>::new());
 }
 
-fn own_and_send<J: Naming, R: Wait + Abort>(rt: &R, alloc: Global, opened: Opened<Letterbox>)
-    requires { opened ≡ J.book }
+fn own_and_send<B: BusBrand, R: Wait + Abort>(rt: &R, alloc: Global, opened: Opened<PlainMailbox>)
+    requires { opened ≡ B.book }
 {
-    let bus = new_bus::<J, R>(rt, alloc, opened);
+    let bus = new_bus::<B, R>(rt, alloc, opened);
     let letterbox = new_letterbox(rt, alloc);
     let mut one = connect(rt, alloc, &bus);
     let mut second_pass = connect_with(rt, &bus, &letterbox);
@@ -73,11 +77,11 @@ fn own_and_send<J: Naming, R: Wait + Abort>(rt: &R, alloc: Global, opened: Opene
 }
 
 // Two names are the second connection's, and others nobody's.
-fn send_to_each_name<J: Naming, R: Wait + Abort>(
+fn send_to_each_name<B: BusBrand, R: Wait + Abort>(
     rt: &R,
     alloc: Global,
-    bus: &Bus<J, Letterbox, &R>,
-    pass: &mut Pass<J, Letterbox>,
+    bus: &Bus<B, PlainMailbox, &R>,
+    pass: &mut Pass<B, PlainMailbox>,
 ) {
     for (name, wanted) in [
         ("com.example.A", Sent::Put(2)),
@@ -93,13 +97,17 @@ fn send_to_each_name<J: Naming, R: Wait + Abort>(
 
 #[test]
 fn full_outbox(rt: HostRuntime) {
-    send_one_too_many::<Brand, _>(&rt, rt.alloc(), Opened::<Letterbox>::new());
+    send_one_too_many::<Brand, _>(&rt, rt.alloc(), Opened::<PlainMailbox>::new());
 }
 
-fn send_one_too_many<J: Naming, R: Wait + Abort>(rt: &R, alloc: Global, opened: Opened<Letterbox>)
-    requires { opened ≡ J.book }
+fn send_one_too_many<B: BusBrand, R: Wait + Abort>(
+    rt: &R,
+    alloc: Global,
+    opened: Opened<PlainMailbox>,
+)
+    requires { opened ≡ B.book }
 {
-    let bus = new_bus::<J, R>(rt, alloc, opened);
+    let bus = new_bus::<B, R>(rt, alloc, opened);
     let full = new_letterbox(rt, alloc);
     let other = new_letterbox(rt, alloc);
     let mut one = connect_with(rt, &bus, &full);
@@ -118,11 +126,11 @@ fn send_one_too_many<J: Naming, R: Wait + Abort>(rt: &R, alloc: Global, opened: 
 }
 
 // Sends the first connection as many messages as its outbox holds, and one more.
-fn fill_first<J: Naming, R: Wait + Abort>(
+fn fill_first<B: BusBrand, R: Wait + Abort>(
     rt: &R,
     alloc: Global,
-    bus: &Bus<J, Letterbox, &R>,
-    pass: &mut Pass<J, Letterbox>,
+    bus: &Bus<B, PlainMailbox, &R>,
+    pass: &mut Pass<B, PlainMailbox>,
 ) {
     for _ in 0..ROOM {
         send_s1(rt, alloc, bus, pass, ":1.1", Sent::Put(1));

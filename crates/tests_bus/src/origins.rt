@@ -5,8 +5,8 @@ ghost use Rattle.std.specs.Prelude.{◌≡◌};
 use crate::fixture::new_bus;
 use crate::letters::{attach_to_all, connect, connect_with, new_letterbox, route_s1};
 use crate::outboxes::expect_both_in_order;
-use published::{Naming, Opened};
-use router::{Bus, Letterbox, Pass};
+use published::{BusBrand, Opened};
+use router::{Bus, Pass, PlainMailbox};
 use routing::Mailbox;
 use std::alloc::Global;
 use std::marker::Brand;
@@ -19,17 +19,17 @@ const BROADCASTS: u64 = 100;
 
 #[test]
 fn order_of_two_origins(rt: HostRuntime) {
-    send_and_take::<Brand, _>(&rt, rt.alloc(), Opened::<Letterbox>::new());
+    send_and_take::<Brand, _>(&rt, rt.alloc(), Opened::<PlainMailbox>::new());
 }
 
-fn send_and_take<J: Naming + Send + Sync, R: Wait + Threads + Sync + Abort>(
+fn send_and_take<B: BusBrand + Send + Sync, R: Wait + Threads + Sync + Abort>(
     rt: &R,
     alloc: Global,
-    opened: Opened<Letterbox>,
+    opened: Opened<PlainMailbox>,
 )
-    requires { opened ≡ J.book }
+    requires { opened ≡ B.book }
 {
-    let bus = new_bus::<J, R>(rt, alloc, opened);
+    let bus = new_bus::<B, R>(rt, alloc, opened);
     let letterbox = new_letterbox(rt, alloc);
     let mut one = connect(rt, alloc, &bus);
     let mut second_pass = connect(rt, alloc, &bus);
@@ -44,12 +44,12 @@ fn send_and_take<J: Naming + Send + Sync, R: Wait + Threads + Sync + Abort>(
     forget(bus);
 }
 
-fn send_at_once<J: Naming + Send + Sync, R: Wait + Threads + Sync + Abort>(
+fn send_at_once<B: BusBrand + Send + Sync, R: Wait + Threads + Sync + Abort>(
     rt: &R,
     alloc: Global,
-    bus: &Bus<J, Letterbox, &R>,
-    one: &mut Pass<J, Letterbox>,
-    second_pass: &mut Pass<J, Letterbox>,
+    bus: &Bus<B, PlainMailbox, &R>,
+    one: &mut Pass<B, PlainMailbox>,
+    second_pass: &mut Pass<B, PlainMailbox>,
 ) {
     let _ = join(
         rt,
@@ -59,11 +59,11 @@ fn send_at_once<J: Naming + Send + Sync, R: Wait + Threads + Sync + Abort>(
 }
 
 // Routes the broadcasts of a pass, which nobody refuses.
-fn send<J: Naming, R: Wait + Abort>(
+fn send<B: BusBrand, R: Wait + Abort>(
     rt: &R,
     alloc: Global,
-    bus: &Bus<J, Letterbox, &R>,
-    pass: &mut Pass<J, Letterbox>,
+    bus: &Bus<B, PlainMailbox, &R>,
+    pass: &mut Pass<B, PlainMailbox>,
 ) {
     for _ in 0..BROADCASTS {
         route_s1(rt, alloc, bus, pass, &[]);

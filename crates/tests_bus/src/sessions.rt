@@ -5,8 +5,8 @@ ghost use Rattle.std.specs.Prelude.{◌≡◌};
 use crate::fixture::{KEY, expect_error, expect_reply, new_bus};
 use crate::letters::{connect, new_letterbox};
 use program_table::Reply;
-use published::{Naming, Opened};
-use router::{Bus, BusError, Capacity, Letterbox};
+use published::{BusBrand, Opened};
+use router::{Bus, BusError, Capacity, PlainMailbox};
 use std::alloc::Global;
 use std::marker::Brand;
 use std::mem::forget;
@@ -15,13 +15,13 @@ use std::sync::Wait;
 
 #[test]
 fn thousand_sessions(rt: HostRuntime) {
-    open_and_close::<Brand, _>(&rt, rt.alloc(), Opened::<Letterbox>::new());
+    open_and_close::<Brand, _>(&rt, rt.alloc(), Opened::<PlainMailbox>::new());
 }
 
-fn open_and_close<J: Naming, R: Wait + Abort>(rt: &R, alloc: Global, opened: Opened<Letterbox>)
-    requires { opened ≡ J.book }
+fn open_and_close<B: BusBrand, R: Wait + Abort>(rt: &R, alloc: Global, opened: Opened<PlainMailbox>)
+    requires { opened ≡ B.book }
 {
-    let bus = new_bus::<J, R>(rt, alloc, opened);
+    let bus = new_bus::<B, R>(rt, alloc, opened);
     for number in 1..=1000 {
         hold_session(rt, alloc, &bus, number);
     }
@@ -29,10 +29,10 @@ fn open_and_close<J: Naming, R: Wait + Abort>(rt: &R, alloc: Global, opened: Ope
 }
 
 // A session that connects, closes and gives its pass back.
-fn hold_session<J: Naming, R: Wait + Abort>(
+fn hold_session<B: BusBrand, R: Wait + Abort>(
     rt: &R,
     alloc: Global,
-    bus: &Bus<J, Letterbox, &R>,
+    bus: &Bus<B, PlainMailbox, &R>,
     number: u64,
 ) {
     let mut pass = bus.pass(rt).expect(rt, "a pass");
@@ -45,13 +45,13 @@ fn hold_session<J: Naming, R: Wait + Abort>(
 
 #[test]
 fn connection_257(rt: HostRuntime) {
-    connect_all::<Brand, _>(&rt, rt.alloc(), Opened::<Letterbox>::new());
+    connect_all::<Brand, _>(&rt, rt.alloc(), Opened::<PlainMailbox>::new());
 }
 
-fn connect_all<J: Naming, R: Wait + Abort>(rt: &R, alloc: Global, opened: Opened<Letterbox>)
-    requires { opened ≡ J.book }
+fn connect_all<B: BusBrand, R: Wait + Abort>(rt: &R, alloc: Global, opened: Opened<PlainMailbox>)
+    requires { opened ≡ B.book }
 {
-    let bus = new_bus::<J, R>(rt, alloc, opened);
+    let bus = new_bus::<B, R>(rt, alloc, opened);
     for _ in 0..256 {
         forget(connect(rt, alloc, &bus));
     }
@@ -65,17 +65,17 @@ fn connect_all<J: Naming, R: Wait + Abort>(rt: &R, alloc: Global, opened: Opened
 // A bus that may have one connection.
 #[test]
 fn second_of_one_connection(rt: HostRuntime) {
-    connect_two::<Brand, _>(&rt, rt.alloc(), Opened::<Letterbox>::new());
+    connect_two::<Brand, _>(&rt, rt.alloc(), Opened::<PlainMailbox>::new());
 }
 
-fn connect_two<J: Naming, R: Wait + Abort>(rt: &R, alloc: Global, opened: Opened<Letterbox>)
-    requires { opened ≡ J.book }
+fn connect_two<B: BusBrand, R: Wait + Abort>(rt: &R, alloc: Global, opened: Opened<PlainMailbox>)
+    requires { opened ≡ B.book }
 {
     let capacity = Capacity {
         connections: 1,
         ..Capacity::standard()
     };
-    let bus = Bus::<J, Letterbox, &R>::with_capacity(rt, alloc, KEY, opened, 2, capacity).expect(
+    let bus = Bus::<B, PlainMailbox, &R>::with_capacity(rt, alloc, KEY, opened, 2, capacity).expect(
         rt, "a bus",
     );
     forget(connect(rt, alloc, &bus));

@@ -5,8 +5,8 @@ ghost use Rattle.std.specs.Prelude.{◌≡◌};
 use crate::fixture::{KEY, name_a};
 use crate::letters::new_letterbox;
 use program_table::{BusState, Command, Refusal, Reply};
-use published::{Naming, Opened, Publisher, Sight};
-use router::Letterbox;
+use published::{BusBrand, HistoryReader, Opened, Publisher};
+use router::PlainMailbox;
 use std::alloc::Global;
 use std::marker::Brand;
 use std::mem::forget;
@@ -15,18 +15,22 @@ use std::sync::{Mutex, Wait};
 
 #[test]
 fn one_history(rt: HostRuntime) {
-    told_and_entered::<Brand, _>(&rt, rt.alloc(), Opened::<Letterbox>::new());
+    told_and_entered::<Brand, _>(&rt, rt.alloc(), Opened::<PlainMailbox>::new());
 }
 
-fn told_and_entered<J: Naming, R: Wait + Abort>(rt: &R, alloc: Global, opened: Opened<Letterbox>)
-    requires { opened ≡ J.book }
+fn told_and_entered<B: BusBrand, R: Wait + Abort>(
+    rt: &R,
+    alloc: Global,
+    opened: Opened<PlainMailbox>,
+)
+    requires { opened ≡ B.book }
 {
-    let made = Publisher::<J, Letterbox, &R>::new(rt, alloc, KEY, opened, 2);
+    let made = Publisher::<B, PlainMailbox, &R>::new(rt, alloc, KEY, opened, 2);
     let bus = Mutex::new(made.expect(rt, "a publisher"));
     let mut publisher = bus.lock(rt);
-    let first = publisher.sight().expect(rt, "the first reader");
-    let second = publisher.sight().expect(rt, "the second reader");
-    assert!(rt; publisher.sight().is_none());
+    let first = publisher.history_reader().expect(rt, "the first reader");
+    let second = publisher.history_reader().expect(rt, "the second reader");
+    assert!(rt; publisher.history_reader().is_none());
     refuse(rt, &mut publisher);
     publish_two(rt, new_letterbox(rt, alloc), &mut publisher);
     enter(rt, first);
@@ -36,26 +40,26 @@ fn told_and_entered<J: Naming, R: Wait + Abort>(rt: &R, alloc: Global, opened: O
 }
 
 // What a command is answered. It promises nothing, so that a test's body carries none of the command's clauses.
-fn publish<J: Naming, R: Wait + Abort>(
+fn publish<B: BusBrand, R: Wait + Abort>(
     rt: &R,
-    publisher: &mut Publisher<J, Letterbox, &R>,
-    command: Command<Letterbox>,
+    publisher: &mut Publisher<B, PlainMailbox, &R>,
+    command: Command<PlainMailbox>,
 ) -> Reply {
     publisher.publish(command).expect(rt, "a reply")
 }
 
 // A command that is refused isn't published.
-fn refuse<J: Naming, R: Wait + Abort>(rt: &R, publisher: &mut Publisher<J, Letterbox, &R>) {
+fn refuse<B: BusBrand, R: Wait + Abort>(rt: &R, publisher: &mut Publisher<B, PlainMailbox, &R>) {
     let reply = publish(rt, publisher, Command::Close(1));
     assert_eq!(rt; reply, Reply::Refused(Refusal::Closed));
     assert_eq!(rt; publisher.commands(), 0);
 }
 
 // Two that are accepted are.
-fn publish_two<J: Naming, R: Wait + Abort>(
+fn publish_two<B: BusBrand, R: Wait + Abort>(
     rt: &R,
-    letterbox: Letterbox,
-    publisher: &mut Publisher<J, Letterbox, &R>,
+    letterbox: PlainMailbox,
+    publisher: &mut Publisher<B, PlainMailbox, &R>,
 ) {
     let _ = publish(rt, publisher, Command::Connect(letterbox));
     let _ = publish(rt, publisher, Command::Request(1, name_a(rt), 0));
@@ -64,16 +68,16 @@ fn publish_two<J: Naming, R: Wait + Abort>(
 }
 
 // Who owns the name of these tests.
-fn owner_in(state: &BusState<Letterbox>) -> Option<u64> {
+fn owner_in(state: &BusState<PlainMailbox>) -> Option<u64> {
     owner_of(state, "com.example.A")
 }
 
-fn owner_of(state: &BusState<Letterbox>, name: &str) -> Option<u64> {
+fn owner_of(state: &BusState<PlainMailbox>, name: &str) -> Option<u64> {
     state.owner_of(name)
 }
 
 // A reader that enters sees both.
-fn enter<J: Naming, R: Abort>(rt: &R, mut reader: Sight<J, Letterbox>) {
+fn enter<B: BusBrand, R: Abort>(rt: &R, mut reader: HistoryReader<B, PlainMailbox>) {
     assert!(rt; reader.history().is_empty());
     let visit = reader.enter().expect(rt, "the published state");
     // Nobody enters twice.
@@ -89,10 +93,10 @@ fn enter<J: Naming, R: Abort>(rt: &R, mut reader: Sight<J, Letterbox>) {
 }
 
 // So does one that is told.
-fn learn<J: Naming, R: Wait + Abort>(
+fn learn<B: BusBrand, R: Wait + Abort>(
     rt: &R,
-    publisher: &Publisher<J, Letterbox, &R>,
-    mut reader: Sight<J, Letterbox>,
+    publisher: &Publisher<B, PlainMailbox, &R>,
+    mut reader: HistoryReader<B, PlainMailbox>,
 ) {
     assert_eq!(rt; owner_in(publisher.state()), Some(1));
     let told_history = publisher.tell(reader.history()).expect(rt, "the history");

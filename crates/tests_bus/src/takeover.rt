@@ -7,8 +7,8 @@ use crate::letters::{connect, connect_with, new_letterbox, send_s1};
 use crate::outboxes::take_all;
 use crate::workers::expect_by_workers;
 use owners::WellKnown;
-use published::{Naming, Opened};
-use router::{Letterbox, Pass, Sent};
+use published::{BusBrand, Opened};
+use router::{Pass, PlainMailbox, Sent};
 use routing::Mailbox;
 use std::alloc::Global;
 use std::marker::Brand;
@@ -19,13 +19,17 @@ use std::thread::Threads;
 
 #[test]
 fn takeover_through_passes(rt: HostRuntime) {
-    take_over::<Brand, _>(&rt, rt.alloc(), Opened::<Letterbox>::new());
+    take_over::<Brand, _>(&rt, rt.alloc(), Opened::<PlainMailbox>::new());
 }
 
-fn take_over<J: Naming, R: Wait + Threads + Abort>(rt: &R, alloc: Global, opened: Opened<Letterbox>)
-    requires { opened ≡ J.book }
+fn take_over<B: BusBrand, R: Wait + Threads + Abort>(
+    rt: &R,
+    alloc: Global,
+    opened: Opened<PlainMailbox>,
+)
+    requires { opened ≡ B.book }
 {
-    let bus = new_bus::<J, R>(rt, alloc, opened);
+    let bus = new_bus::<B, R>(rt, alloc, opened);
     let letterbox = new_letterbox(rt, alloc);
     let mut one = connect(rt, alloc, &bus);
     let mut second_pass = connect_with(rt, &bus, &letterbox);
@@ -51,9 +55,9 @@ fn take_over<J: Naming, R: Wait + Threads + Abort>(rt: &R, alloc: Global, opened
 }
 
 // Each way to find the recipients of S1 gives them.
-fn expect_each_way<J: Naming, R: Wait + Threads + Abort>(
+fn expect_each_way<B: BusBrand, R: Wait + Threads + Abort>(
     rt: &R,
-    pass: &mut Pass<J, Letterbox>,
+    pass: &mut Pass<B, PlainMailbox>,
     wanted: &[u64],
 ) {
     expect_recipients(rt, pass, wanted);
@@ -63,10 +67,10 @@ fn expect_each_way<J: Naming, R: Wait + Threads + Abort>(
 }
 
 // The second of three connections owns the one name, and the first waits for it.
-fn look_up<J: Naming, R: Abort>(
+fn look_up<B: BusBrand, R: Abort>(
     rt: &R,
     alloc: Global,
-    pass: &mut Pass<J, Letterbox>,
+    pass: &mut Pass<B, PlainMailbox>,
     name: &WellKnown,
 ) {
     expect_owner(rt, pass, name, Some(2));
@@ -74,9 +78,9 @@ fn look_up<J: Naming, R: Abort>(
     expect_names(rt, alloc, pass, name, &[1, 2, 3]);
 }
 
-fn expect_owner<J: Naming, R: Abort>(
+fn expect_owner<B: BusBrand, R: Abort>(
     rt: &R,
-    pass: &mut Pass<J, Letterbox>,
+    pass: &mut Pass<B, PlainMailbox>,
     name: &WellKnown,
     wanted: Option<u64>,
 ) {
@@ -84,10 +88,10 @@ fn expect_owner<J: Naming, R: Abort>(
 }
 
 // These have a claim on the name, the owner first.
-fn expect_queue<J: Naming, R: Abort>(
+fn expect_queue<B: BusBrand, R: Abort>(
     rt: &R,
     alloc: Global,
-    pass: &mut Pass<J, Letterbox>,
+    pass: &mut Pass<B, PlainMailbox>,
     name: &WellKnown,
     wanted: &[u64],
 ) {
@@ -96,10 +100,10 @@ fn expect_queue<J: Naming, R: Abort>(
 }
 
 // These are connected, and the name is the only one that is owned.
-fn expect_names<J: Naming, R: Abort>(
+fn expect_names<B: BusBrand, R: Abort>(
     rt: &R,
     alloc: Global,
-    pass: &mut Pass<J, Letterbox>,
+    pass: &mut Pass<B, PlainMailbox>,
     name: &WellKnown,
     connected: &[u64],
 ) {
@@ -110,7 +114,7 @@ fn expect_names<J: Naming, R: Abort>(
 }
 
 // The message in the letterbox is S1, and the only one.
-fn expect_s1<R: Wait + Abort>(rt: &R, alloc: Global, letterbox: &Letterbox) {
+fn expect_s1<R: Wait + Abort>(rt: &R, alloc: Global, letterbox: &PlainMailbox) {
     let items = take_all(rt, alloc, letterbox.outbox());
     assert_eq!(rt; items.len(), 1);
     assert_eq!(rt; items[0].bytes().as_slice(), s1_bytes().as_slice());

@@ -5,8 +5,8 @@ ghost use Rattle.std.specs.Prelude.{◌≡◌};
 use crate::fixture::{M7, add_rule, expect_recipients_of, expect_reply, new_bus};
 use crate::letters::connect;
 use program_table::Reply;
-use published::{Naming, Opened};
-use router::{Bus, Letterbox, Pass, Source};
+use published::{BusBrand, Opened};
+use router::{Bus, Pass, PlainMailbox, Source};
 use std::alloc::Global;
 use std::marker::Brand;
 use std::mem::forget;
@@ -15,14 +15,14 @@ use std::sync::Wait;
 
 #[test]
 fn index_runs(rt: HostRuntime) {
-    subscribe_all::<Brand, _>(&rt, rt.alloc(), Opened::<Letterbox>::new());
+    subscribe_all::<Brand, _>(&rt, rt.alloc(), Opened::<PlainMailbox>::new());
 }
 
 // 250 connections with four rules each, of the members `m0` to `m999` in order, and an empty rule of the first one.
-fn subscribe_all<J: Naming, R: Wait + Abort>(rt: &R, alloc: Global, opened: Opened<Letterbox>)
-    requires { opened ≡ J.book }
+fn subscribe_all<B: BusBrand, R: Wait + Abort>(rt: &R, alloc: Global, opened: Opened<PlainMailbox>)
+    requires { opened ≡ B.book }
 {
-    let bus = new_bus::<J, R>(rt, alloc, opened);
+    let bus = new_bus::<B, R>(rt, alloc, opened);
     let mut one = subscriber(rt, alloc, &bus, 0);
     let mut second_pass = subscriber(rt, alloc, &bus, 1);
     for place in 2..250 {
@@ -39,12 +39,12 @@ fn subscribe_all<J: Naming, R: Wait + Abort>(rt: &R, alloc: Global, opened: Open
 }
 
 // A pass whose connection has the four rules from four times its place on.
-fn subscriber<J: Naming, R: Wait + Abort>(
+fn subscriber<B: BusBrand, R: Wait + Abort>(
     rt: &R,
     alloc: Global,
-    bus: &Bus<J, Letterbox, &R>,
+    bus: &Bus<B, PlainMailbox, &R>,
     place: u16,
-) -> Pass<J, Letterbox> {
+) -> Pass<B, PlainMailbox> {
     let mut pass = connect(rt, alloc, bus);
     for number in 0..4 {
         subscribe(rt, alloc, bus, &mut pass, 4 * u32::from(place) + number);
@@ -52,11 +52,11 @@ fn subscriber<J: Naming, R: Wait + Abort>(
     pass
 }
 
-fn subscribe<J: Naming, R: Wait + Abort>(
+fn subscribe<B: BusBrand, R: Wait + Abort>(
     rt: &R,
     alloc: Global,
-    bus: &Bus<J, Letterbox, &R>,
-    pass: &mut Pass<J, Letterbox>,
+    bus: &Bus<B, PlainMailbox, &R>,
+    pass: &mut Pass<B, PlainMailbox>,
     member: u32,
 ) {
     let rule = rule_of(rt, alloc, member);
@@ -70,6 +70,6 @@ fn rule_of<R: Abort>(rt: &R, alloc: Global, member: u32) -> String {
 }
 
 // The recipients of the bus's own broadcast with the member `m7`.
-fn expect_found<J: Naming, R: Abort>(rt: &R, pass: &mut Pass<J, Letterbox>, wanted: &[u64]) {
+fn expect_found<B: BusBrand, R: Abort>(rt: &R, pass: &mut Pass<B, PlainMailbox>, wanted: &[u64]) {
     expect_recipients_of(rt, pass, Source::Bus, &M7, wanted);
 }

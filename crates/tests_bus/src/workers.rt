@@ -6,8 +6,8 @@ use crate::fixture::{new_bus, read_message, s1_bytes};
 use crate::gates::{expect_second_first, open_gate, second_first};
 use crate::letters::connect;
 use fan_out::FanError;
-use published::{Naming, Opened};
-use router::{BusError, Letterbox, Pass, Source};
+use published::{BusBrand, Opened};
+use router::{BusError, Pass, PlainMailbox, Source};
 use std::alloc::Global;
 use std::marker::Brand;
 use std::mem::forget;
@@ -16,9 +16,9 @@ use std::sync::Wait;
 use std::thread::Threads;
 
 /// The recipients of S1 as a broadcast of the pass, found by `workers` workers.
-pub(crate) fn expect_by_workers<J: Naming, R: Wait + Threads + Abort>(
+pub(crate) fn expect_by_workers<B: BusBrand, R: Wait + Threads + Abort>(
     rt: &R,
-    pass: &mut Pass<J, Letterbox>,
+    pass: &mut Pass<B, PlainMailbox>,
     workers: u32,
     wanted: &[u64],
 ) {
@@ -33,17 +33,17 @@ pub(crate) fn expect_by_workers<J: Naming, R: Wait + Threads + Abort>(
 
 #[test]
 fn workers_at_once(rt: HostRuntime) {
-    find_by_workers::<Brand, _>(&rt, rt.alloc(), Opened::<Letterbox>::new());
+    find_by_workers::<Brand, _>(&rt, rt.alloc(), Opened::<PlainMailbox>::new());
 }
 
-fn find_by_workers<J: Naming, R: Wait + Threads + Abort>(
+fn find_by_workers<B: BusBrand, R: Wait + Threads + Abort>(
     rt: &R,
     alloc: Global,
-    opened: Opened<Letterbox>,
+    opened: Opened<PlainMailbox>,
 )
-    requires { opened ≡ J.book }
+    requires { opened ≡ B.book }
 {
-    let bus = new_bus::<J, R>(rt, alloc, opened);
+    let bus = new_bus::<B, R>(rt, alloc, opened);
     let mut pass = connect(rt, alloc, &bus);
     expect_both_at_once(rt, &mut pass);
     expect_refusal(rt, &mut pass, 0);
@@ -53,9 +53,9 @@ fn find_by_workers<J: Naming, R: Wait + Threads + Abort>(
 }
 
 // The first of two workers waits until the second is done.
-fn expect_both_at_once<J: Naming, R: Wait + Threads + Abort>(
+fn expect_both_at_once<B: BusBrand, R: Wait + Threads + Abort>(
     rt: &R,
-    pass: &mut Pass<J, Letterbox>,
+    pass: &mut Pass<B, PlainMailbox>,
 ) {
     let bytes = s1_bytes();
     let view = read_message(rt, bytes.as_slice());
@@ -68,9 +68,9 @@ fn expect_both_at_once<J: Naming, R: Wait + Threads + Abort>(
 }
 
 // This number of workers is refused.
-fn expect_refusal<J: Naming, R: Wait + Threads + Abort>(
+fn expect_refusal<B: BusBrand, R: Wait + Threads + Abort>(
     rt: &R,
-    pass: &mut Pass<J, Letterbox>,
+    pass: &mut Pass<B, PlainMailbox>,
     workers: u32,
 ) {
     let bytes = s1_bytes();

@@ -7,7 +7,7 @@ use Rattle.entry_table.proofs.search.first_place.Given as goal
 -- none so far was wanted
 abbrev pub invariant-loop-place : goal.invariant-loop-place
 invariant-loop-place l =
-    find (λ place. is_wanted_in l.wanted l.connection (entry_at place l.shelf)) l.places ≡ find (λ place. is_wanted_in l.wanted l.connection (entry_at place l.shelf)) l.initial.places
+    find (λ place. is_wanted_in l.wanted l.connection (entry_at place l.slab)) l.places ≡ find (λ place. is_wanted_in l.wanted l.connection (entry_at place l.slab)) l.initial.places
 
 abbrev pub decreases-loop-place : goal.decreases-loop-place
 decreases-loop-place l = length l.places

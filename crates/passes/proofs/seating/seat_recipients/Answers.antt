@@ -1,5 +1,5 @@
 use Rattle.std.proofs.Common.{◌≡◌, ℕ, List, true, subst}
-use Rattle.routing.specs.Stops.{is_in}
+use Rattle.routing.specs.RecipientSeats.{is_in}
 use Rattle.passes.proofs.Finding.{rising, recipients_there}
 use Rattle.passes.proofs.Seats.{keeps_on}
 use Rattle.passes.proofs.seating.seat_recipients.Goals as goal

@@ -12,5 +12,5 @@ returns c = λ m valid. record {
   has_arg0 = c.has_arg0-has_arg0.result;
   without = c.has_arg0-has_arg0.ensures;
   is = c.new.ensures
-      ∙ ap (λ (found : KeyedTexts). coming c.args.shelf.now c.args.self.now.by_texts found (record { shape = 0; places = places_in c.args.self.now.by_texts hash_lists; shapes = c.in_use.result })) (c.new-found.ensures m valid);
+      ∙ ap (λ (found : KeyedTexts). coming c.args.slab.now c.args.self.now.by_texts found (record { shape = 0; places = places_in c.args.self.now.by_texts hash_lists; shapes = c.in_use.result })) (c.new-found.ensures m valid);
 }

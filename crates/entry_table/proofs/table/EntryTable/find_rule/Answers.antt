@@ -9,7 +9,7 @@ use Rattle.entry_table.proofs.table.EntryTable.find_rule.Goals as goal
 
 pub returns-in-Some : goal.returns-in-Some
 returns-in-Some c =
-    let held = c.self.inside.shelf in
+    let held = c.self.inside.slab in
     let test = has_rule c.args.connection c.args.rule.now in
     let f = searched held (EqualRule c.args.rule) c.args.connection c.of_connection.result (Some c.in-Some.place) c.of_connection.ensures.once c.of_connection.ensures.value c.in-Some.ensures in
     c.id_at.ensures ∙ ap (option_map {T = Entry} {U = ℕ} (λ (e : Entry). e.id)) (sym (found-some held c.in-Some.place (find test (entries_of held)) (oldest_of test held) f.here f.first f.kept))
@@ -17,7 +17,7 @@ returns-in-Some c =
 
 pub returns-in-None : goal.returns-in-None
 returns-in-None c =
-    let held = c.self.inside.shelf in
+    let held = c.self.inside.slab in
     let test = has_rule c.args.connection c.args.rule.now in
     let f = searched held (EqualRule c.args.rule) c.args.connection c.of_connection.result None c.of_connection.ensures.once c.of_connection.ensures.value c.in-None.ensures in
     ap (option_map {T = Entry} {U = ℕ} (λ (e : Entry). e.id)) (sym (found-none held test (find test (entries_of held)) (oldest_of test held) f.here f.first))

@@ -8,7 +8,7 @@ use Rattle.entry_table.proofs.table.EntryTable.next_rule.Goals as goal
 
 pub returns-in-Some : goal.returns-in-Some
 returns-in-Some c =
-    let held = c.self.inside.shelf in
+    let held = c.self.inside.slab in
     let test = is_rule_after c.args.connection c.args.after in
     let f = searched held (RuleAfter c.args.after) c.args.connection c.of_connection.result (Some c.in-Some.place) c.of_connection.ensures.once c.of_connection.ensures.value c.in-Some.ensures in
     c.get.ensures ∙ sym (found-some held c.in-Some.place (find test (entries_of held)) (oldest_of test held) f.here f.first f.kept)
@@ -16,7 +16,7 @@ returns-in-Some c =
 
 pub returns-in-None : goal.returns-in-None
 returns-in-None c =
-    let held = c.self.inside.shelf in
+    let held = c.self.inside.slab in
     let test = is_rule_after c.args.connection c.args.after in
     let f = searched held (RuleAfter c.args.after) c.args.connection c.of_connection.result None c.of_connection.ensures.once c.of_connection.ensures.value c.in-None.ensures in
     sym (found-none held test (find test (entries_of held)) (oldest_of test held) f.here f.first)

@@ -6,11 +6,11 @@ use Rattle.passes.proofs.pass.Pass.broadcast_gated.Goals as goal
 
 pub returns-clause-routed : goal.returns-clause-routed
 returns-clause-routed g c =
-    answered _ g.M.Mailbox.outbox_of c.args.source c.sender-from.result c.args.bytes.now c.args.self.now c.enter.new.self c.take_sender-sender.new.self c.leave.new.self c.put_back.new.self c.in_ok-visit.visit c.state.result.now
+    answered _ g.M.Mailbox.outbox_of c.args.source c.sender-from.result c.args.bytes.now c.args.self.now c.enter.new.self c.take_sender-sender.new.self c.leave.new.self c.put_back.new.self c.in_ok-guard.guard c.state.result.now
     c.take_sender-sender.result c.seat_recipients-seated.new.sender c.route-answer.new.sender c.seat_recipients-seated.new.recipients.items c.route-answer.new.refused.items c.route-answer.result
     (record {
       entered = c.enter.ensures.same;
-      begins = c.in_ok-visit.ensures.visit.0;
+      begins = c.in_ok-guard.ensures.guard.0;
       state = c.state.ensures.state;
       taken = c.take_sender-sender.ensures.same;
       is = c.take_sender-sender.ensures.sender;

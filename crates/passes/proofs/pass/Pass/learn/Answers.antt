@@ -1,10 +1,10 @@
 use Rattle.std.proofs.Common.{refl}
 use Rattle.passes.specs.Passes.{PassState}
-use Rattle.passes.specs.Sending.{count_in, stops_in}
+use Rattle.passes.specs.Sending.{count_in, recipient_seats_in}
 use Rattle.passes.proofs.Done.{still_taken}
 use Rattle.passes.proofs.pass.Pass.learn.Goals as goal
 
 pub invariant_of-self : goal.invariant_of-self
 invariant_of-self g c =
-    let v : PassState g.row.M.Denot = record { seen = c.self.inside.sight; connection = c.self.inside.connection; is_closed = c.self.inside.is_closed; took = c.self.inside.took; count = count_in c.self.inside.sender; stops = stops_in c.self.inside.sender } in
+    let v : PassState g.row.M.Denot = record { seen = c.self.inside.history_reader; connection = c.self.inside.connection; is_closed = c.self.inside.is_closed; took = c.self.inside.took; count = count_in c.self.inside.sender; recipient_seats = recipient_seats_in c.self.inside.sender } in
     (still_taken v (record v { seen = c.learn.new.self }) c.self.invariant.0 c.learn.ensures.this refl refl, c.self.invariant.1)

@@ -12,4 +12,4 @@ use Rattle.passes.proofs.pass.Pass.may_reach.Goals as goal
 pub returns-clause-found : goal.returns-clause-found
 returns-clause-found g c =
     let P : State g.row.M.Denot → Type 0 = λ s. (m : Message) → Valid c.args.view.now m → TellsReach s (texts_from (Some c.args.sender.now) m) c.may_reach-found.result in
-    asked P c.args.self.now.seen c.in_ok-visit.visit c.leave.new.self c.state.result.now c.in_ok-visit.ensures.visit.0 c.state.ensures.state (ap (λ (p : PassState g.row.M.Denot). p.seen) c.leave.ensures) c.may_reach-found.ensures
+    asked P c.args.self.now.seen c.in_ok-guard.guard c.leave.new.self c.state.result.now c.in_ok-guard.ensures.guard.0 c.state.ensures.state (ap (λ (p : PassState g.row.M.Denot). p.seen) c.leave.ensures) c.may_reach-found.ensures

@@ -12,5 +12,5 @@ returns-clause-found g c =
     let own = sender_of c.args.source c.args.self.now.connection in
     let P : Option ℕ → State g.row.M.Denot → Type 0 = λ from s. (m : Message) → Valid c.args.view.now m → AreRecipients s from m c.select-recipients.result.items in
     let from_is : c.sender-sender.result ≡ own = c.sender-sender.ensures ∙ ap (λ n. sender_of c.args.source n) (c.connection.ensures ∙ ap (λ (p : PassState g.row.M.Denot). p.connection) c.enter.ensures.same) in
-    asked (P own) c.args.self.now.seen c.in_ok-visit.visit c.leave.new.self c.state.result.now c.in_ok-visit.ensures.visit.0 c.state.ensures.state (ap (λ (p : PassState g.row.M.Denot). p.seen) c.leave.ensures)
+    asked (P own) c.args.self.now.seen c.in_ok-guard.guard c.leave.new.self c.state.result.now c.in_ok-guard.ensures.guard.0 c.state.ensures.state (ap (λ (p : PassState g.row.M.Denot). p.seen) c.leave.ensures)
     (subst (λ from. P from c.state.result.now) from_is c.select-recipients.ensures)

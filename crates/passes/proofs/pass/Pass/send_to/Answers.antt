@@ -6,11 +6,11 @@ deliver-answer-requires g c = its_seat _ c.seat_owner-seated.result _ _ _ c.seat
 
 pub returns-clause-sent : goal.returns-clause-sent
 returns-clause-sent g c =
-    delivered _ g.M.Mailbox.outbox_of c.args.to.now c.args.bytes.now c.args.self.now c.enter.new.self c.take_sender-sender.new.self c.leave.new.self c.put_back.new.self c.in_ok-visit.visit c.state.result.now
+    delivered _ g.M.Mailbox.outbox_of c.args.to.now c.args.bytes.now c.args.self.now c.enter.new.self c.take_sender-sender.new.self c.leave.new.self c.put_back.new.self c.in_ok-guard.guard c.state.result.now
     c.take_sender-sender.result c.seat_owner-seated.new.sender c.deliver-answer.new.sender c.seat_owner-seated.result c.deliver-answer.result
     (record {
       entered = c.enter.ensures.same;
-      begins = c.in_ok-visit.ensures.visit.0;
+      begins = c.in_ok-guard.ensures.guard.0;
       state = c.state.ensures.state;
       taken = c.take_sender-sender.ensures.same;
       is = c.take_sender-sender.ensures.sender;

@@ -1,0 +1,182 @@
+// A sender's seats at the outboxes of its recipients.
+
+ghost use Rattle.std.specs.Prelude.{◌≡◌, ◌<◌, ◌≤◌, ◌++◌, ◌∷◌, [], ℕ, cond, false, IfOk, OnOk, IfSome, IsSomeAnd, filter, length, position};
+ghost use Rattle.outbox.specs.Views.{Follows, blank};
+ghost use Rattle.routing.specs.SenderView.{RecipientSeatView};
+ghost use Rattle.routing.specs.RecipientSeats.{RisesFrom, is_for, is_in, seat_at, all_written, HasSeat, AllHave};
+ghost use Rattle.routing.specs.Puts.{PutThere, PutAt, PutTo, SeatsTaken};
+
+use crate::mailbox::Mailbox;
+use crate::recipient::Recipient;
+use arrayvec::ArrayVec;
+use outbox::{Item, Outbox, Seat, Shares};
+use std::alloc::AllocError;
+use std::marker::Model;
+use std::sync::Wait;
+
+/// A seat at a recipient's outbox.
+#[derive(Drop)]
+pub(crate) struct RecipientSeat<C> {
+    recipient: u64,
+    carrier: C,
+    outbox: Outbox,
+    seat: Seat,
+    // Something was put since the outbox was last written out.
+    is_waiting: bool,
+}
+
+impl<C> Model for RecipientSeat<C> {
+    ghost use Rattle.std.specs.Prelude.{◌≡◌};
+    ghost use Rattle.routing.specs.SenderView.{RecipientSeatView};
+
+    ghost Value = { RecipientSeatView };
+
+    ghost view = { λ s. record { recipient = s.recipient; outbox = s.outbox; seat = s.seat; is_waiting = s.is_waiting } };
+
+    ghost invariant = { λ s. s.seat.outbox ≡ s.outbox };
+}
+
+impl<C> RecipientSeat<C> {
+    pub(crate) fn recipient(&self) -> u64
+        ensures { result ≡ self.now.recipient }
+    {
+        self.recipient
+    }
+
+    /// Puts an item there, and says whether it was put.
+    pub(crate) fn put<R: Wait>(&mut self, rt: &R, item: Item) -> bool
+        requires { Follows self.old.seat.view.put item.mark }
+        ensures { PutThere item result self.old self.new }
+    {
+        self.is_waiting = true;
+        self.outbox.put(rt, &mut self.seat, item).is_ok()
+    }
+}
+
+impl<C: Mailbox> RecipientSeat<C> {
+    /// A new seat there.
+    pub(crate) fn at(recipient: Recipient<C>) -> Result<RecipientSeat<C>, AllocError>
+        ensures { IfOk result (λ s. (s.recipient ≡ recipient.number) × (s.outbox ≡ recipient.outbox) × (s.seat.view ≡ blank) × (s.is_waiting ≡ false)) }
+    {
+        let (number, carrier) = recipient.into_parts();
+        let outbox = carrier.outbox().share()?;
+        let seat = outbox.seat();
+        Ok(RecipientSeat {
+            recipient: number,
+            carrier,
+            outbox,
+            seat,
+            is_waiting: false,
+        })
+    }
+}
+
+/// Where the recipient's recipient_seat is.
+pub(crate) fn place_of<C>(recipient_seats: &[RecipientSeat<C>], recipient: u64) -> Option<usize>
+    ensures { result ≡ position (is_for recipient) recipient_seats.now }
+{
+    recipient_seats
+        .iter()
+        .position(|s| s.recipient() == recipient)
+}
+
+/// Puts an item at the recipient's outbox, and says whether it was put.
+pub(crate) fn put_at<C, R: Wait>(
+    rt: &R,
+    recipient_seats: &mut [RecipientSeat<C>],
+    recipient: u64,
+    item: Item,
+) -> bool
+    requires { IsSomeAnd (seat_at recipient recipient_seats.old) (λ s. Follows s.seat.view.put item.mark) }
+    ensures { PutAt recipient item result recipient_seats.old recipient_seats.new }
+{
+    match place_of(recipient_seats, recipient) {
+        Some(place) => recipient_seats[place].put(rt, item),
+        None => unreachable!(),
+    }
+}
+
+/// Takes a seat at the recipient's outbox, where the sender has none there.
+pub(crate) fn take_seat<C: Mailbox>(
+    recipient_seats: &mut Vec<RecipientSeat<C>>,
+    recipient: Recipient<C>,
+) -> Result<(), AllocError>
+    ensures taken { SeatsTaken (recipient ∷ []) recipient_seats.old.items recipient_seats.new.items }
+    ensures has { OnOk result (HasSeat recipient.number recipient_seats.new.items) }
+{
+    if place_of(recipient_seats.as_slice(), recipient.number()).is_some() {
+        return Ok(());
+    }
+    let recipient_seat = RecipientSeat::at(recipient)?;
+    recipient_seats.push(recipient_seat)?;
+    Ok(())
+}
+
+// Lists the recipient, where its outbox refused the put.
+fn note(refused: &mut ArrayVec<u64, 4096>, recipient: u64, put: bool)
+    requires { length refused.old.items < 4096 }
+    ensures { refused.new.items ≡ cond put refused.old.items (refused.old.items ++ recipient ∷ []) }
+{
+    if !put {
+        refused.push(recipient);
+    }
+}
+
+/// Puts a broadcast to each recipient, one share for each, and lists those whose outbox refused it.
+pub(crate) fn put_all<C, R: Wait>(
+    rt: &R,
+    recipient_seats: &mut [RecipientSeat<C>],
+    recipients: &[u64],
+    shares: &mut Shares,
+    refused: &mut ArrayVec<u64, 4096>,
+)
+    requires has { AllHave recipients.now recipient_seats.old }
+    requires rising { RisesFrom 0 recipients.now }
+    requires shares { shares.old.left ≡ length recipients.now }
+    requires few { length recipients.now ≤ 4096 }
+    requires follows { (n : ℕ) → IfSome (seat_at n recipient_seats.old) (λ s. Follows s.seat.view.put shares.old.message.mark) }
+    requires none { refused.old.items ≡ [] }
+    ensures put { PutTo shares.old.message recipients.now refused.new.items recipient_seats.old recipient_seats.new }
+    ensures left { (shares.new.left ≡ 0) × (shares.new.message ≡ shares.old.message) }
+{
+    for recipient in recipients {
+        let put = put_at(rt, recipient_seats, *recipient, shares.next());
+        note(refused, *recipient, put);
+    }
+}
+
+/// Writes out each outbox in which something was put since it last was written out.
+pub(crate) fn push_out_all<C: Mailbox, R: Wait>(rt: &R, recipient_seats: &mut [RecipientSeat<C>])
+    ensures { recipient_seats.new ≡ all_written recipient_seats.old }
+{
+    for place in 0..recipient_seats.len() {
+        let recipient_seat = &mut recipient_seats[place];
+        if recipient_seat.is_waiting {
+            recipient_seat.is_waiting = false;
+            recipient_seat.carrier.push_out(rt);
+        }
+    }
+}
+
+/// Shuts each outbox in which something was put since it last was written out.
+pub(crate) fn shut_waiting<C>(recipient_seats: &[RecipientSeat<C>]) {
+    for recipient_seat in recipient_seats {
+        if recipient_seat.is_waiting {
+            recipient_seat.outbox.shut();
+        }
+    }
+}
+
+// Whether the number is among these numbers.
+fn is_among(number: u64, numbers: &[u64]) -> bool
+    ensures { result ≡ is_in number numbers.now }
+{
+    numbers.iter().any(|n| *n == number)
+}
+
+/// Drops the recipient_seats of all recipients but these.
+pub(crate) fn retain<C: Drop>(recipient_seats: &mut Vec<RecipientSeat<C>>, recipients: &[u64])
+    ensures { recipient_seats.new.items ≡ filter (λ s. is_in s.recipient recipients.now) recipient_seats.old.items }
+{
+    recipient_seats.retain(|recipient_seat| is_among(recipient_seat.recipient(), recipients));
+}
