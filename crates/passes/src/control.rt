@@ -91,7 +91,7 @@ impl<B: BusBrand, M: Mailbox, R: Wait + Drop> Control<B, M, R> {
     pub fn pass_without_reader(&self) -> Pass<B, M>
         ensures { result ≡ new_pass self.now.history }
     {
-        Pass::new(self.publisher.value.sight_without_reader())
+        Pass::new(self.publisher.value.history_without_reader())
     }
 
     /// A new reader, for the passes to which it will be lent.

@@ -169,7 +169,7 @@ impl<B: BusBrand, M: Mailbox> Pass<B, M> {
     }
 
     /// Gives up the pass, and keeps the reader with what it has seen.
-    pub(crate) fn into_sight(self) -> HistoryReader<B, M>
+    pub(crate) fn into_history_reader(self) -> HistoryReader<B, M>
         ensures { result ≡ self.seen }
     {
         let Self {
