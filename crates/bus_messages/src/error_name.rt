@@ -1,7 +1,7 @@
 // The errors that the bus answers.
 
 ghost use Rattle.std.specs.Prelude.{◌≡◌, ◌++◌};
-ghost use Rattle.bus_messages.specs.ErrorNames.{full_name, word_of, sentence_of, place_of, text_of};
+ghost use Rattle.bus_messages.specs.ErrorNames.{is_said_alone, full_name, word_of, sentence_of, place_of, text_of};
 
 use crate::exceeded::Exceeded;
 use bpf_verify::VerifyError;
