@@ -92,17 +92,17 @@ impl<'a, B: BusBrand, R: Wait> Connected<'a, B, R> {
         event: &TextEvent<'_>,
     ) -> Result<Reply, Unanswered> {
         if connection == 0 || connection > self.last {
-            return Err(Unanswered::closed());
+            return Err(Unanswered::of_closed());
         }
         match &mut self.closed {
             Some(pass) => call(self.rt, self.alloc, &self.bus, pass, event),
-            None => Err(Unanswered::closed()),
+            None => Err(Unanswered::of_closed()),
         }
     }
 
     fn connect(&mut self) -> Result<Reply, Unanswered> {
-        let letterbox = PlainMailbox::new(self.alloc)?;
-        let (pass, reply) = connect(self.rt, &self.bus, letterbox)?;
+        let mailbox = PlainMailbox::new(self.alloc)?;
+        let (pass, reply) = connect(self.rt, &self.bus, mailbox)?;
         self.last = pass.connection();
         match self.passes.insert(self.last, pass) {
             Ok(_) => Ok(reply),
@@ -155,7 +155,7 @@ impl<'a, B: BusBrand, R: Wait> Connected<'a, B, R> {
     ) -> Result<Recipients, Unanswered> {
         match self.passes.get_mut(&connection) {
             Some(pass) => recipients(pass, source, bytes),
-            None => Err(Unanswered::closed()),
+            None => Err(Unanswered::of_closed()),
         }
     }
 
@@ -174,7 +174,7 @@ impl<'a, B: BusBrand, R: Wait> Connected<'a, B, R> {
     fn recipients_by_closed(&mut self, bytes: &[u8]) -> Result<Recipients, Unanswered> {
         match &mut self.closed {
             Some(pass) => recipients(pass, Source::Bus, bytes),
-            None => Err(Unanswered::closed()),
+            None => Err(Unanswered::of_closed()),
         }
     }
 
@@ -192,10 +192,10 @@ impl<'a, B: BusBrand, R: Wait> Connected<'a, B, R> {
 fn connect<B: BusBrand, R: Wait>(
     rt: &R,
     bus: &Bus<B, PlainMailbox, &R>,
-    letterbox: PlainMailbox,
+    mailbox: PlainMailbox,
 ) -> Result<(Pass<B, PlainMailbox>, Reply), Unanswered> {
     let mut pass = bus.pass(rt)?;
-    match bus.connect(rt, &mut pass, letterbox) {
+    match bus.connect(rt, &mut pass, mailbox) {
         Ok(reply) => Ok((pass, reply)),
         Err(error) => {
             give_back(rt, bus, pass);
