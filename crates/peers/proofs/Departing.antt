@@ -1,25 +1,49 @@
 -- How a peer leaves the bus.
-use Rattle.std.proofs.Common.{◌≡◌, true, Some, None, Result, Ok, Err, inl, inr, sym, ap, subst, ◌∙◌}
+use Rattle.std.proofs.Common.{◌≡◌, true, [], append-nil, Some, None, Result, Ok, Err, inl, inr, refl, sym, ap, subst, ◌∙◌}
 use Rattle.outbox.specs.Seated.{OutboxId}
 use Rattle.message_build.specs.Asked.{Asked}
 use Rattle.router.specs.BusError.{BusError}
 use Rattle.router.specs.BusError.TheVariants as errors
-use Rattle.router.specs.Calls.{Once, Answers}
+use Rattle.router.specs.Calls.{Once, Answers, HasNoClaim, HasSeenAll, ClaimsNothing, ClaimsOrIsGone}
 use Rattle.router.specs.Command.TheVariants.{Close}
+use Rattle.router.specs.NameCall.TheVariants.{DropOne}
 use Rattle.router.specs.Passes.{PassState}
+use Rattle.router.specs.Publication.{Publication}
 use Rattle.router.specs.Reply.{Reply}
 use Rattle.peers.specs.declared.error.AnswerError.{AnswerError}
+use Rattle.peers.specs.declared.leaving.Giving.{Giving}
+use Rattle.peers.specs.declared.leaving.Giving.TheVariants.{Last}
 use Rattle.peers.specs.declared.leaving.Leaving.{Leaving}
 use Rattle.peers.specs.declared.leaving.Leaving.TheVariants.{Done}
 use Rattle.peers.specs.Announcements.{IsSignalled, change_asked}
 use Rattle.peers.specs.Calling.{AnswersCallers}
-use Rattle.peers.specs.Departure.{IsClosing, ClosesPass, HasLeft}
-use Rattle.peers.specs.Passing.{with_pass}
+use Rattle.peers.specs.Departure.{IsClosing, ClosesPass, GivesUpName, HasLeft, giving_of}
+use Rattle.peers.specs.OwnerChanges.{ChangesOwner}
+use Rattle.peers.specs.Passing.{HasSeenMore, with_pass}
 use Rattle.peers.specs.PeerState.{PeerState, name_of}
 use Rattle.peers.proofs.Calling.{callers_close_none}
 use Rattle.peers.proofs.Rows.{called}
 
 module _ {M : Type 0} where
+  seen_more : (v w : PassState M) (now : Publication M) → HasSeenAll v now w → HasSeenMore v w
+  seen_more v w now (begins, same) = let P : PassState M → Type 0 = λ p. HasSeenMore v p in subst P (sym same) (begins, refl)
+
+  -- the pass was found to have no claim
+  pub last_given : (outbox_of : M → OutboxId) (v w : PeerState M) (now : Publication M) → ClaimsNothing v.pass now w.pass → w ≡ with_pass v w.pass → GivesUpName outbox_of v Last w
+  last_given outbox_of v w now (seen, none) is =
+      let P : PassState M → Type 0 = λ p. HasNoClaim p.connection p.seen in (w.pass, seen_more v.pass w.pass now seen, inr (refl, is, subst P (sym seen.1) none))
+
+  looked : (v w : PassState M) (now : Publication M) → ClaimsOrIsGone v now w → HasSeenMore v w
+  looked v w now (inl (seen, claims)) = seen_more v w now seen
+  looked v w now (inr (fewer, same)) = let P : PassState M → Type 0 = λ p. HasSeenMore v p in subst P (sym same) (([], append-nil v.seen), refl)
+
+  -- it was found to have one, or not to be there, and the call was made
+  pub name_given : (outbox_of : M → OutboxId) (v u w : PeerState M) (now before next : Publication M) (asked : Result Reply BusError) (announced : Result (Unit {0}) AnswerError) (giving : Giving) → ClaimsOrIsGone v.pass now u.pass → u ≡ with_pass v u.pass
+      → ChangesOwner outbox_of DropOne u before asked announced w next → giving ≡ giving_of asked → GivesUpName outbox_of v giving w
+  name_given outbox_of v u w now before next asked announced giving claims is changes gives =
+      let P : PeerState M → Type 0 = λ s. ChangesOwner outbox_of DropOne s before asked announced w next in
+      (u.pass, looked v.pass u.pass now claims, inl (asked, announced, (before, next, subst P is changes), gives))
+
   pub closed : (outbox_of : M → OutboxId) (u v w : PeerState M) (asked : Result Reply BusError) (pass : PassState M) (leaving : Leaving) → u ≡ v → Once (λ before next. Answers true u.pass before (Close u.pass.connection) asked pass next) → IsClosing outbox_of asked (with_pass u pass) leaving w
       → ClosesPass outbox_of v leaving w
   closed outbox_of u v w asked pass leaving is d g =
