@@ -6,6 +6,7 @@ from .page import Page, code_of
 
 COMMANDS, WATCHING, SECURITY, IMAGE = (f"docs/{it}.md" for it in ("COMMANDS", "WATCHING", "SECURITY", "IMAGE"))
 OPTION = re.compile(r"--[a-z][a-z-]*(?: (?:ADDRESS|GUID|NAME=N|NAME|FILE|N|1\|2)(?!\w))?")
+METHOD = re.compile(r"(\w+)\((.*)\)(?: -> (.+))?")
 # The faults of each word, and those that no file of a command can have: a program's file is text, and never bytes.
 FAULTS = {"rule": ("match_key", {"NoMemory"}), "message": ("message_value", set()), "capture": ("captures", set()),
           "code": ("bpf_code", {"NoMemory", "Length", "Code"}), "program": ("bpf_verify", {"NoMemory", "Code"})}
@@ -20,7 +21,7 @@ def spelled(options):
 
 def check_commands(report, page):
     """Each command has a row; where a row names its options, it names all of them."""
-    table, known = page.table("Words", "Answer"), code.commands()
+    table, known = page.table("Command", "What it does"), code.commands()
     rows = [(line, code_of(cells[0])[0]) for line, cells in table.rows]
     named = {text.split()[0] for _, text in rows}
     report.check_same(page.at(table.line), "command", {it for it in named if it[0] != "-"}, {*known, "help"})
@@ -35,7 +36,7 @@ def check_commands(report, page):
 
 def check_options(report, page, command, *header):
     table = page.table(*header)
-    stated = {it for _, cells in table.rows for code_word in code_of(cells[0]) for it in OPTION.findall(code_word)}
+    stated = {it for _, cells in table.rows if cells[0][0] == "`" for it in OPTION.findall(cells[0])}
     report.check_same(page.at(table.line), f"option of {command}", stated, spelled(code.options(command)))
 
 
@@ -62,7 +63,7 @@ def says(text, number):
 
 def check_limits(report, page):
     """The name, the standard value, the largest value and the unit of each limit."""
-    table, known = page.table("Name", "Of"), code.limits()
+    table, known = page.table("Name", "What it limits"), code.limits()
     report.check_same(page.at(table.line), "limit", {code_of(cells[0])[0] for _, cells in table.rows}, known)
     for line, (name, of, _, standard) in table.rows:
         limit = known.get(name.strip("`"))
@@ -93,11 +94,9 @@ def check_limit_words(report, page):
 
 
 def check_methods(report, page):
-    """Each method with its signatures, under its interface."""
-    table, interface, stated = page.table("Interface", "Method"), "", set()
-    for _, cells in table.rows:
-        interface = (code_of(cells[0]) or [interface])[0]
-        stated |= {(interface, *[(code_of(it) or [""])[0] for it in cells[1:4]])}
+    """Each method under its interface, with the signatures of its arguments and its answer."""
+    table = page.table("Interface", "Methods")
+    stated = {(code_of(cells[0])[0], *METHOD.fullmatch(it).groups("")) for _, cells in table.rows for it in code_of(cells[1])}
     report.check_same(page.at(table.line), "method", stated, code.methods())
 
 
