@@ -1,4 +1,4 @@
-"""Links of pages: the file is there, and the heading that an anchor names. And paths that stand as code."""
+"""Links of pages: the file is there, and the heading that an anchor names. Also paths that stand as code, and listings of examples."""
 import re
 from pathlib import Path
 
@@ -49,9 +49,25 @@ def check_paths(report, page, number, line):
                 report.check(not known or any(TOP.glob(path.rstrip("/"))), page.at(number), f"no such path: {path}")
 
 
+def instructions(lines):
+    """The lines of a program without their comments."""
+    return [it for it in (line.partition(";")[0].rstrip() for line in lines) if it]
+
+
+def check_listings(report, page):
+    """A block below a link to a program has the instructions of that program."""
+    for block in page.blocks():
+        above = "\n".join(page.lines[max(0, block.line - 5):block.line - 1])
+        linked = re.findall(r"\]\([./]*(examples/\w+\.bpf)\)", above)
+        if block.language == "" and linked and Path(TOP, linked[-1]).is_file():
+            real = Path(TOP, linked[-1]).read_text(encoding="utf-8").splitlines()
+            report.check(instructions(block.lines) == instructions(real), page.at(block.line), f"{linked[-1]} has other instructions")
+
+
 def check(report, pages):
     known = {}
     for page in pages:
+        check_listings(report, page)
         for number, line in page.prose():
             for target in LINK.findall(line):
                 check_link(report, page, number, target, known)
