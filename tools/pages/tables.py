@@ -76,7 +76,7 @@ def check_limits(report, page):
 
 def check_shares(report, page):
     """Each limit's standard value stands in a row with its name."""
-    table, known = page.table("What", "`NAME`"), code.limits()
+    table, known = page.table("What", "Limit"), code.limits()
     named = {(line, name): cells[0] for line, cells in table.rows for name in code_of(cells[1])}
     report.check_same(page.at(table.line), "limit", {name for _, name in named}, known)
     for (line, name), text in named.items():
