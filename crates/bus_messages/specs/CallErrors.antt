@@ -10,6 +10,7 @@ error_name_of errors.UnknownMethod = names.UnknownMethod
 error_name_of errors.UnknownInterface = names.UnknownInterface
 error_name_of errors.UnknownProperty = names.UnknownProperty
 error_name_of errors.PropertyReadOnly = names.PropertyReadOnly
+error_name_of errors.AccessDenied = names.AccessDenied
 error_name_of errors.InvalidArgs = names.InvalidArgs
 error_name_of errors.BadEdition = names.BadEdition
 error_name_of errors.NoMemory = names.NoMemory

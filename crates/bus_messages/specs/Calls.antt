@@ -1,5 +1,5 @@
 -- What the bus understands of a call (D-Bus Specification, "Message Bus Messages").
-use Rattle.std.specs.Prelude.{◌≡◌, ◌≢◌, ◌⊎◌, ℕ, Bool, true, false, List, map, Option, Some, None, Result, Ok, Err, if◌then◌else◌}
+use Rattle.std.specs.Prelude.{◌≡◌, ◌≢◌, ◌⊎◌, ◌||◌, ℕ, Bool, true, false, List, codes, map, Option, Some, None, Result, Ok, Err, cond, if◌then◌else◌}
 use Rattle.std.specs.Borrow.{Bor}
 use Rattle.std.specs.Str.{bytes_eq}
 use Rattle.bpf_code.specs.declared.instruction.Ins.{Ins}
@@ -11,13 +11,13 @@ use Rattle.summary.specs.declared.edition.Edition.TheVariants.{One}
 use Rattle.bus_messages.specs.declared.call.Call.{Call}
 use Rattle.bus_messages.specs.declared.call.Call.TheVariants as calls
 use Rattle.bus_messages.specs.declared.call.CallError.{CallError}
-use Rattle.bus_messages.specs.declared.call.CallError.TheVariants.{UnknownMethod, UnknownInterface, UnknownProperty, PropertyReadOnly, InvalidArgs, BadEdition, NoMemory}
+use Rattle.bus_messages.specs.declared.call.CallError.TheVariants.{UnknownMethod, UnknownInterface, UnknownProperty, PropertyReadOnly, AccessDenied, InvalidArgs, BadEdition, NoMemory}
 use Rattle.bus_messages.specs.declared.method.Method.{Method}
 use Rattle.bus_messages.specs.declared.method.Method.TheVariants as names
 use Rattle.bus_messages.specs.Arguments.{Given, later, first_text, first_number, first_program, first_texts, edition_of}
 use Rattle.bus_messages.specs.Introspection.{is_interface}
-use Rattle.bus_messages.specs.Methods.{MethodRow, bus, is_misplaced, method_called}
-use Rattle.bus_messages.specs.Properties.{property_of}
+use Rattle.bus_messages.specs.Methods.{MethodRow, is_at_bus_path, is_bus_path, method_called}
+use Rattle.bus_messages.specs.Properties.{has_properties, property_of}
 use Rattle.bus_messages.specs.declared.property.Property.{Property}
 
 -- a call of a method whose first argument is a text
@@ -30,19 +30,23 @@ IsAttach method args_left edition program =
     ((method ≡ names.Attach) × (edition ≡ One) × (first_program args_left ≡ Some program))
     ⊎ ((method ≡ names.AttachEdition) × (edition_of (first_number args_left) ≡ Ok edition) × (first_program (later args_left) ≡ Some program))
 
+-- an interface of the bus is named, or none, which stands for all (D-Bus Specification, "org.freedesktop.DBus.Properties")
+abbrev pub is_named : List ℕ → Bool
+is_named interface = bytes_eq interface (codes "") || is_interface interface
+
 -- the first argument is a text that names an interface that the bus doesn't have
 abbrev pub NamesNoInterface : Given → Type 0
-NamesNoInterface args_left = (interface : List ℕ) × (first_text args_left ≡ Some interface) × (is_interface interface ≡ false)
+NamesNoInterface args_left = (interface : List ℕ) × (first_text args_left ≡ Some interface) × (is_named interface ≡ false)
 
--- the first two arguments are texts that name an interface of the bus, and this property of it, or none that it has
+-- the first two arguments are texts that name an interface of the bus or all, and this property of it, or none that it has
 abbrev pub NamesProperty : Option Property → Given → Type 0
 NamesProperty property args_left =
-    (interface : List ℕ) × (name : List ℕ) × (first_text args_left ≡ Some interface) × (first_text (later args_left) ≡ Some name) × (is_interface interface ≡ true) × (property_of interface name ≡ property)
+    (interface : List ℕ) × (name : List ℕ) × (first_text args_left ≡ Some interface) × (first_text (later args_left) ≡ Some name) × (is_named interface ≡ true) × (property_of interface name ≡ property)
 
--- the first argument is a text that names an interface of the bus, which is the one that has properties or another one
+-- the first argument is a text that names an interface of the bus or all, and whether one with properties is among them
 abbrev pub NamesInterface : Bool → Given → Type 0
-NamesInterface has_properties args_left =
-    (interface : List ℕ) × (first_text args_left ≡ Some interface) × (is_interface interface ≡ true) × (bytes_eq interface bus ≡ has_properties)
+NamesInterface properties args_left =
+    (interface : List ℕ) × (first_text args_left ≡ Some interface) × (is_named interface ≡ true) × (has_properties interface ≡ properties)
 
 -- a call is of the method, and its values are those of the arguments
 abbrev pub IsCallOf : Call → Method → Given → Type 0
@@ -72,6 +76,7 @@ IsCallOf (calls.Get property) method args_left = (method ≡ names.Get) × Names
 IsCallOf calls.GetAll method args_left = (method ≡ names.GetAll) × NamesInterface true args_left
 IsCallOf calls.GetAllOfNone method args_left = (method ≡ names.GetAll) × NamesInterface false args_left
 IsCallOf calls.UpdateActivationEnvironment method args_left = method ≡ names.UpdateActivationEnvironment
+IsCallOf calls.ReloadConfig method args_left = method ≡ names.ReloadConfig
 IsCallOf (calls.BecomeMonitor rules flags) method args_left =
     (method ≡ names.BecomeMonitor) × (first_texts args_left ≡ Some (map (λ (rule : Bor (List ℕ)). rule.now) rules.items)) × (first_number (later args_left) ≡ Some flags)
 IsCallOf calls.GetStats method args_left = method ≡ names.GetStats
@@ -88,6 +93,7 @@ Lacks names.GetId args_left = ⊥
 Lacks names.GetMachineId args_left = ⊥
 Lacks names.Introspect args_left = ⊥
 Lacks names.UpdateActivationEnvironment args_left = ⊥
+Lacks names.ReloadConfig args_left = ⊥
 Lacks names.GetStats args_left = ⊥
 Lacks names.GetAllMatchRules args_left = ⊥
 Lacks names.RequestName args_left = (first_text args_left ≡ None) ⊎ (first_number (later args_left) ≡ None)
@@ -121,10 +127,16 @@ abbrev pub Refuses : CallError → Method → Given → Type 0
 Refuses UnknownMethod method args_left = ⊥
 Refuses UnknownInterface method args_left = (names_interface method ≡ true) × NamesNoInterface args_left
 Refuses UnknownProperty method args_left = (names_property method ≡ true) × NamesProperty None args_left
+Refuses AccessDenied method args_left = ⊥
 Refuses PropertyReadOnly method args_left = (method ≡ names.Set) × (property : Property) × NamesProperty (Some property) args_left
 Refuses BadEdition method args_left = (method ≡ names.AttachEdition) × (edition_of (first_number args_left) ≡ Err BadEdition)
 Refuses NoMemory method args_left = takes_list method ≡ true
 Refuses InvalidArgs method args_left = Lacks method args_left
+
+-- the method that sets the environment of services
+abbrev pub is_environment : Method → Bool
+is_environment names.UpdateActivationEnvironment = true
+is_environment _ = false
 
 -- the method that a message calls
 abbrev pub row_called : Option (List ℕ) → Option (List ℕ) → Option MethodRow
@@ -141,17 +153,31 @@ abbrev pub Understands : Method → Given → Result Call CallError → Type 0
 Understands method args_left (Ok call) = IsCallOf call method args_left
 Understands method args_left (Err error) = Refuses error method args_left
 
--- A call of a method: at another path than the bus has it, the interface isn't known there; of another signature than the
--- method's, `InvalidArgs`; else as the method's arguments say.
-abbrev pub ReadsRow : Bool → MethodRow → List ℕ → Given → Result Call CallError → Type 0
-ReadsRow true row signature args_left read = read ≡ Err UnknownInterface
-ReadsRow false row signature args_left read =
+-- at another path than the bus's own, an interface that isn't there, or a call of it that names none
+abbrev pub unknown_elsewhere : Bool → Option (List ℕ) → Option CallError
+unknown_elsewhere false named = None
+unknown_elsewhere true None = Some UnknownMethod
+unknown_elsewhere true (Some _) = Some UnknownInterface
+
+-- why a method may not be called at another path than the bus's own, if it may not; the call names an interface or none
+abbrev pub refusal_elsewhere : MethodRow → Option (List ℕ) → Option CallError
+refusal_elsewhere row named = cond (is_environment row.method) (Some AccessDenied) (unknown_elsewhere (is_at_bus_path row.interface) named)
+
+-- why it may not be called at this path, if it may not
+abbrev pub refusal_at : Option (List ℕ) → MethodRow → Option (List ℕ) → Option CallError
+refusal_at path row named = cond (is_bus_path path) None (refusal_elsewhere row named)
+
+-- A call of a method: refused at its path; of another signature than the method's, `InvalidArgs`; else as the method's
+-- arguments say.
+abbrev pub ReadsRow : Option CallError → MethodRow → List ℕ → Given → Result Call CallError → Type 0
+ReadsRow (Some error) row signature args_left read = read ≡ Err error
+ReadsRow None row signature args_left read =
     ((signature ≡ row.takes) × Understands row.method args_left read) ⊎ ((signature ≢ row.takes) × (read ≡ Err InvalidArgs))
 
 -- what a message is read as; of a method that isn't there, that its interface or the method isn't known
 abbrev pub ReadsAs : Option (List ℕ) → Option (List ℕ) → Option MethodRow → List ℕ → Given → Result Call CallError → Type 0
 ReadsAs interface path None signature args_left read = read ≡ Err (unknown_call interface)
-ReadsAs interface path (Some row) signature args_left read = ReadsRow (is_misplaced row.interface path) row signature args_left read
+ReadsAs interface path (Some row) signature args_left read = ReadsRow (refusal_at path row interface) row signature args_left read
 
 -- the arguments of a message
 abbrev pub given_by : Message → Given

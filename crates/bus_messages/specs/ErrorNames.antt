@@ -67,7 +67,7 @@ limit_of limits.MessageLen = codes "bytes of the message with its sender"
 
 -- what was wrong
 abbrev pub sentence_of : ErrorName → List ℕ
-sentence_of AccessDenied = codes "only the user of the bus may do that"
+sentence_of AccessDenied = codes "only the user of the bus may do that, at the path of the bus"
 sentence_of AdtAuditDataUnknown = codes "the bus knows no audit sessions"
 sentence_of Failed = codes "Hello came before, or the bus has no answer"
 sentence_of InvalidArgs = codes "these are not arguments of the method"
@@ -76,7 +76,7 @@ sentence_of (MatchRuleInvalid fault) = rules.sentence_of fault
 sentence_of MatchRuleNotFound = codes "this connection has no such rule"
 sentence_of NameHasNoOwner = codes "nobody owns the name"
 sentence_of NoMemory = codes "the bus has no memory for this"
-sentence_of NoReply = codes "message recipient disconnected from message bus without replying"
+sentence_of NoReply = codes "Message recipient disconnected from message bus without replying"
 sentence_of ServiceUnknown = codes "nobody owns the name, and nothing is started here"
 sentence_of SelinuxSecurityContextUnknown = codes "the bus knows no security contexts"
 sentence_of UnixProcessIdUnknown = codes "the bus knows no processes"
@@ -98,6 +98,7 @@ abbrev pub place_text : Option ℕ → List ℕ
 place_text None = codes ""
 place_text (Some place) = codes " at instruction " ++ decimal place
 
--- what an error says: its word, what was wrong, and where
+-- what an error says: its word, what was wrong, and where; NoReply what was wrong alone
 abbrev pub text_of : ErrorName → List ℕ
+text_of NoReply = sentence_of NoReply
 text_of name = word_of name ++ codes ": " ++ sentence_of name ++ place_text (place_of name)

@@ -1,10 +1,10 @@
 -- The methods of the bus (D-Bus Specification, "Message Bus Messages", "Standard Interfaces"; those of Debug.Stats are the
 -- reference bus's).
-use Rattle.std.specs.Prelude.{ℕ, Bool, true, false, not, ◌||◌, List, [], ◌∷◌, codes, Option, Some, None, ◌&&◌}
+use Rattle.std.specs.Prelude.{ℕ, Bool, true, false, ◌||◌, List, [], ◌∷◌, codes, Option, Some, None, ◌&&◌}
 use Rattle.std.specs.List.{find}
 use Rattle.std.specs.Str.{bytes_eq}
 use Rattle.bus_messages.specs.declared.method.Method.{Method}
-use Rattle.bus_messages.specs.declared.method.Method.TheVariants.{Hello, AddMatch, RemoveMatch, RequestName, ReleaseName, GetNameOwner, NameHasOwner, ListNames, Ping, Attach, AttachEdition, Detach, StartServiceByName, ListActivatableNames, ListQueuedOwners, GetId, GetConnectionUnixUser, GetConnectionUnixProcessId, GetConnectionCredentials, GetAdtAuditSessionData, GetConnectionSelinuxSecurityContext, GetMachineId, Introspect, Get, GetAll, Set, UpdateActivationEnvironment, BecomeMonitor, GetStats, GetConnectionStats, GetAllMatchRules}
+use Rattle.bus_messages.specs.declared.method.Method.TheVariants.{Hello, AddMatch, RemoveMatch, RequestName, ReleaseName, GetNameOwner, NameHasOwner, ListNames, Ping, Attach, AttachEdition, Detach, StartServiceByName, ListActivatableNames, ListQueuedOwners, GetId, GetConnectionUnixUser, GetConnectionUnixProcessId, GetConnectionCredentials, GetAdtAuditSessionData, GetConnectionSelinuxSecurityContext, GetMachineId, Introspect, Get, GetAll, Set, UpdateActivationEnvironment, ReloadConfig, BecomeMonitor, GetStats, GetConnectionStats, GetAllMatchRules}
 
 -- a method, what it is called, and the signatures of its arguments and of its answer
 pub record MethodRow : Type 0 where
@@ -68,6 +68,7 @@ methods =
     ∷ row_of GetAll properties (codes "GetAll") (codes "s") (codes "a{sv}")
     ∷ row_of Set properties (codes "Set") (codes "ssv") []
     ∷ row_of UpdateActivationEnvironment bus (codes "UpdateActivationEnvironment") (codes "a{ss}") []
+    ∷ row_of ReloadConfig bus (codes "ReloadConfig") [] []
     ∷ row_of BecomeMonitor monitoring (codes "BecomeMonitor") (codes "asu") []
     ∷ row_of GetStats stats (codes "GetStats") [] (codes "a{sv}")
     ∷ row_of GetConnectionStats stats (codes "GetConnectionStats") (codes "s") (codes "a{sv}")
@@ -79,9 +80,9 @@ abbrev pub is_bus_path : Option (List ℕ) → Bool
 is_bus_path (Some path) = bytes_eq path (codes "/org/freedesktop/DBus")
 is_bus_path None = false
 
--- a call of an interface isn't at the path at which the bus has it: some are at any path
-abbrev pub is_misplaced : List ℕ → Option (List ℕ) → Bool
-is_misplaced interface path = (bytes_eq interface properties || (bytes_eq interface monitoring || bytes_eq interface stats)) && not (is_bus_path path)
+-- the interfaces that the bus has at its own path alone
+abbrev pub is_at_bus_path : List ℕ → Bool
+is_at_bus_path interface = bytes_eq interface properties || (bytes_eq interface monitoring || bytes_eq interface stats)
 
 -- a call that names no interface may be of any
 abbrev pub is_of : Option (List ℕ) → List ℕ → Bool

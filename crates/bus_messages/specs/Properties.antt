@@ -1,5 +1,5 @@
 -- The properties of the bus (D-Bus Specification, "Message Bus Properties").
-use Rattle.std.specs.Prelude.{ℕ, List, [], ◌∷◌, codes, Option, Some, None, ◌&&◌, if◌then◌else◌}
+use Rattle.std.specs.Prelude.{ℕ, Bool, List, [], ◌∷◌, codes, Option, Some, None, ◌&&◌, ◌||◌, if◌then◌else◌}
 use Rattle.std.specs.Str.{bytes_eq}
 use Rattle.signature.specs.DataType.{basic, array}
 use Rattle.message_value.specs.Value.{Value, Values, text, elements, entries, of_type, one_value, no_values, no_entries, one_entry}
@@ -7,11 +7,15 @@ use Rattle.bus_messages.specs.declared.property.Property.{Property}
 use Rattle.bus_messages.specs.declared.property.Property.TheVariants.{Features, Interfaces}
 use Rattle.bus_messages.specs.Methods.{bus, programs, monitoring, stats}
 
+-- the interfaces that have properties; an empty name stands for all
+abbrev pub has_properties : List ℕ → Bool
+has_properties interface = bytes_eq interface (codes "") || bytes_eq interface bus
+
 -- the property of an interface that has this name
 abbrev pub property_of : List ℕ → List ℕ → Option Property
 property_of interface name =
-    if bytes_eq interface bus && bytes_eq name (codes "Features") then Some Features
-    else if bytes_eq interface bus && bytes_eq name (codes "Interfaces") then Some Interfaces
+    if has_properties interface && bytes_eq name (codes "Features") then Some Features
+    else if has_properties interface && bytes_eq name (codes "Interfaces") then Some Interfaces
     else None
 
 -- strings as the elements of an array

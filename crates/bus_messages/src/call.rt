@@ -4,7 +4,7 @@ ghost use Rattle.std.specs.Prelude.{◌≡◌, MatchResult, false, option_map, t
 ghost use Rattle.message_view.specs.Message.{Message};
 ghost use Rattle.message_view.specs.Valid.{Valid};
 ghost use Rattle.bus_messages.specs.declared.call.CallError.TheVariants.{UnknownInterface};
-ghost use Rattle.bus_messages.specs.Calls.{IsReadAs, Understands, row_called, unknown_call};
+ghost use Rattle.bus_messages.specs.Calls.{IsReadAs, Understands, is_named, refusal_at, refusal_elsewhere, row_called, unknown_call};
 ghost use Rattle.bus_messages.specs.CallAnswers.{properties_of};
 ghost use Rattle.bus_messages.specs.Introspection.{is_interface};
 ghost use Rattle.bus_messages.specs.CallErrors.{error_name_of};
@@ -12,8 +12,8 @@ ghost use Rattle.bus_messages.specs.Rows.{method_row_of};
 
 use crate::arguments::Arguments;
 use crate::error_name::ErrorName;
-use crate::method::{BUS, Method, MethodEntry, is_interface, is_misplaced};
-use crate::property::{Property, property_of};
+use crate::method::{Method, MethodEntry, is_at_bus_path, is_bus_path, is_interface};
+use crate::property::{Property, has_properties, property_of};
 use bpf_code::Ins;
 use message_view::{MsgError, View};
 use std::alloc::{AllocError, Global};
@@ -56,6 +56,8 @@ pub enum Call<'a> {
     GetAllOfNone,
     /// The environment of services, of which this bus starts none.
     UpdateActivationEnvironment,
+    /// The configuration, of which this bus has none.
+    ReloadConfig,
     /// The rules of a monitor; the flags have no meaning.
     BecomeMonitor(Vec<&'a str>, u32),
     GetStats,
@@ -74,6 +76,8 @@ pub enum CallError {
     UnknownProperty,
     /// No property of the bus can be set.
     PropertyReadOnly,
+    /// The method may be called at the bus's own path alone.
+    AccessDenied,
     /// The arguments aren't of the method's types.
     InvalidArgs,
     /// There is no such edition of a summary.
@@ -92,6 +96,7 @@ impl CallError {
             CallError::UnknownInterface => ErrorName::UnknownInterface,
             CallError::UnknownProperty => ErrorName::UnknownProperty,
             CallError::PropertyReadOnly => ErrorName::PropertyReadOnly,
+            CallError::AccessDenied => ErrorName::AccessDenied,
             CallError::InvalidArgs => ErrorName::InvalidArgs,
             CallError::BadEdition => ErrorName::BadEdition,
             CallError::NoMemory => ErrorName::NoMemory,
@@ -135,24 +140,25 @@ impl From<AllocError> for CallError {
     }
 }
 
-/// The name of an interface that the bus has.
+/// The name of an interface that the bus has, or of none, which stands for all (D-Bus Specification,
+/// "org.freedesktop.DBus.Properties").
 fn known_interface<'a>(name: &'a str) -> Result<&'a str, CallError>
     ensures { MatchResult result
-        (λ known. (known.now ≡ name.entry.now) × (is_interface name.entry.now ≡ true))
-        (λ error. (error ≡ UnknownInterface) × (is_interface name.entry.now ≡ false)) }
+        (λ known. (known.now ≡ name.entry.now) × (is_named name.entry.now ≡ true))
+        (λ error. (error ≡ UnknownInterface) × (is_named name.entry.now ≡ false)) }
 {
-    if is_interface(name) {
+    if name == "" || is_interface(name) {
         Ok(name)
     } else {
         Err(CallError::UnknownInterface)
     }
 }
 
-/// All properties of an interface.
+/// All properties of an interface, or of all.
 fn properties<'a>(interface: &str) -> Result<Call<'a>, CallError>
     ensures { result ≡ properties_of interface.now }
 {
-    if interface == BUS {
+    if has_properties(interface) {
         Ok(Call::GetAll)
     } else if is_interface(interface) {
         Ok(Call::GetAllOfNone)
@@ -168,6 +174,33 @@ fn unknown_call(interface: Option<&str>) -> CallError
     match interface {
         Some(name) if !is_interface(name) => CallError::UnknownInterface,
         _ => CallError::UnknownMethod,
+    }
+}
+
+/// Why a method may not be called at another path than the bus's own, if it may not. The call names an interface or none.
+fn refusal_elsewhere(row: &MethodEntry, named: Option<&str>) -> Option<CallError>
+    ensures { result ≡ refusal_elsewhere (method_row_of row.now) (option_map (λ name. name.now) named.entry) }
+{
+    if matches!(row.method, Method::UpdateActivationEnvironment) {
+        return Some(CallError::AccessDenied);
+    }
+    if !is_at_bus_path(row.interface) {
+        return None;
+    }
+    match named {
+        Some(_) => Some(CallError::UnknownInterface),
+        None => Some(CallError::UnknownMethod),
+    }
+}
+
+/// Why a method may not be called at this path, if it may not.
+fn refusal_at(path: Option<&str>, row: &MethodEntry, named: Option<&str>) -> Option<CallError>
+    ensures { result ≡ refusal_at (option_map (λ name. name.now) path.entry) (method_row_of row.now) (option_map (λ name. name.now) named.entry) }
+{
+    if is_bus_path(path) {
+        None
+    } else {
+        refusal_elsewhere(row, named)
     }
 }
 
@@ -231,6 +264,7 @@ impl<'a> Call<'a> {
                 Err(CallError::PropertyReadOnly)
             }
             Method::UpdateActivationEnvironment => Ok(Call::UpdateActivationEnvironment),
+            Method::ReloadConfig => Ok(Call::ReloadConfig),
             Method::BecomeMonitor => Ok(Call::BecomeMonitor(
                 arguments.texts(alloc)?,
                 arguments.number()?,
@@ -245,18 +279,19 @@ impl<'a> Call<'a> {
     ///
     /// # Errors
     ///
-    /// `UnknownInterface` and `UnknownMethod` where the bus has no method of the interface and the member, `UnknownInterface`
-    /// also where it has the method at another path, `InvalidArgs`
-    /// where the body has another signature than the method takes, `BadEdition` where a summary's edition isn't 1 or 2,
-    /// `UnknownInterface`, `UnknownProperty` and `PropertyReadOnly` of properties, and `NoMemory`.
+    /// `UnknownInterface` and `UnknownMethod` if the bus has no method of the interface and the member, or has it at its own
+    /// path alone and the message has another one: `UnknownMethod` if the message names no interface. `AccessDenied` if
+    /// UpdateActivationEnvironment is called at another path. `InvalidArgs` if the body has another signature than the method
+    /// takes, `BadEdition` if a summary's edition isn't 1 or 2, `UnknownInterface`, `UnknownProperty` and `PropertyReadOnly`
+    /// of properties, and `NoMemory`.
     pub fn read(alloc: Global, view: &View<'a>) -> Result<Call<'a>, CallError>
         ensures { (m : Message) → Valid view.now m → IsReadAs m result }
     {
         let Some(row) = row_called(view.interface(), view.member()) else {
             return Err(unknown_call(view.interface()));
         };
-        if is_misplaced(row.interface, view.path()) {
-            return Err(CallError::UnknownInterface);
+        if let Some(error) = refusal_at(view.path(), row, view.interface()) {
+            return Err(error);
         }
         if view.signature() != row.takes.as_bytes() {
             return Err(CallError::InvalidArgs);

@@ -91,7 +91,7 @@ impl ErrorName {
         match self {
             ErrorName::AccessDenied => Terms {
                 word: "AccessDenied",
-                sentence: "only the user of the bus may do that",
+                sentence: "only the user of the bus may do that, at the path of the bus",
             },
             ErrorName::AdtAuditDataUnknown => Terms {
                 word: "AdtAuditDataUnknown",
@@ -127,7 +127,7 @@ impl ErrorName {
             },
             ErrorName::NoReply => Terms {
                 word: "NoReply",
-                sentence: "message recipient disconnected from message bus without replying",
+                sentence: "Message recipient disconnected from message bus without replying",
             },
             ErrorName::ServiceUnknown => Terms {
                 word: "ServiceUnknown",
@@ -183,7 +183,8 @@ impl ErrorName {
     }
 }
 
-/// Its word and its sentence, as the body of the error has them, and ` at instruction ` with the place of one, from 0.
+/// Its word and its sentence, as the body of the error has them, and ` at instruction ` with the place of one, from 0. NoReply
+/// is its sentence alone, which is that of other buses: programs show it to people.
 impl fmt::Display for ErrorName {
     ghost use Rattle.std.specs.Prelude.{Some};
 
@@ -193,6 +194,7 @@ impl fmt::Display for ErrorName {
         let Terms { word, sentence } = self.terms();
         match self.place() {
             Some(place) => write!(f, "{word}: {sentence} at instruction {place}"),
+            None if self == ErrorName::NoReply => f.write_str(sentence),
             None => write!(f, "{word}: {sentence}"),
         }
     }

@@ -2,7 +2,7 @@
 
 ghost use Rattle.std.specs.Prelude.{◌≡◌, map, option_map};
 ghost use Rattle.std.specs.List.{find};
-ghost use Rattle.bus_messages.specs.Methods.{methods, is_of, is_called, is_bus_path, is_misplaced, method_called};
+ghost use Rattle.bus_messages.specs.Methods.{methods, is_of, is_called, is_at_bus_path, is_bus_path, method_called};
 ghost use Rattle.bus_messages.specs.Introspection.{is_interface};
 ghost use Rattle.bus_messages.specs.Rows.{method_row_of};
 
@@ -36,6 +36,7 @@ pub(crate) enum Method {
     GetAll,
     Set,
     UpdateActivationEnvironment,
+    ReloadConfig,
     BecomeMonitor,
     GetStats,
     GetConnectionStats,
@@ -93,16 +94,15 @@ pub(crate) fn is_interface(name: &str) -> bool
 /// The path at which the bus's own properties are, and what looks into it (D-Bus Specification, "Message Bus Messages").
 const BUS_PATH: &str = "/org/freedesktop/DBus";
 
-/// Whether a call of an interface isn't at the path at which the bus has it: some are at any path.
-pub(crate) fn is_misplaced(interface: &str, path: Option<&str>) -> bool
-    ensures { result ≡ is_misplaced interface.now (option_map (λ name. name.now) path.entry) }
+/// Whether the bus has an interface at its own path alone. It has the others at any path.
+pub(crate) fn is_at_bus_path(interface: &str) -> bool
+    ensures { result ≡ is_at_bus_path interface.now }
 {
-    let is_at_one_path = interface == PROPERTIES || interface == MONITORING || interface == STATS;
-    is_at_one_path && !is_bus_path(path)
+    interface == PROPERTIES || interface == MONITORING || interface == STATS
 }
 
 /// Whether it is the bus's own path.
-fn is_bus_path(path: Option<&str>) -> bool
+pub(crate) fn is_bus_path(path: Option<&str>) -> bool
     ensures { result ≡ is_bus_path (option_map (λ name. name.now) path.entry) }
 {
     match path {
@@ -124,7 +124,7 @@ macro_rules! rows {
 }
 
 /// Each method. A call that names no interface is of the first row with its member.
-static ROWS: [MethodEntry; 31] = rows! {
+static ROWS: [MethodEntry; 32] = rows! {
     Hello BUS "Hello" ("") -> "s";
     AddMatch BUS "AddMatch" ("s") -> "";
     RemoveMatch BUS "RemoveMatch" ("s") -> "";
@@ -152,6 +152,7 @@ static ROWS: [MethodEntry; 31] = rows! {
     GetAll PROPERTIES "GetAll" ("s") -> "a{sv}";
     Set PROPERTIES "Set" ("ssv") -> "";
     UpdateActivationEnvironment BUS "UpdateActivationEnvironment" ("a{ss}") -> "";
+    ReloadConfig BUS "ReloadConfig" ("") -> "";
     BecomeMonitor MONITORING "BecomeMonitor" ("asu") -> "";
     GetStats STATS "GetStats" ("") -> "a{sv}";
     GetConnectionStats STATS "GetConnectionStats" ("s") -> "a{sv}";

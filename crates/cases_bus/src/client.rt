@@ -35,10 +35,10 @@ where
 impl<B: BusBrand> Client<B> {
     /// A client that has said nothing, on a bus that says this of itself.
     pub(crate) fn new(alloc: Global, identity: Identity) -> Result<Client<B>, AllocError> {
-        let letterbox = PlainMailbox::new(alloc)?;
-        let taker = Taker::new(letterbox.outbox())?;
+        let mailbox = PlainMailbox::new(alloc)?;
+        let taker = Taker::new(mailbox.outbox())?;
         Ok(Client {
-            session: Some(Session::admitting(alloc, identity, Admission::any(), letterbox)),
+            session: Some(Session::admitting(alloc, identity, Admission::any(), mailbox)),
             taker,
             received: Received::new(alloc),
             subject: None,

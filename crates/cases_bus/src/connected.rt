@@ -101,8 +101,8 @@ impl<'a, B: BusBrand, R: Wait> Connected<'a, B, R> {
     }
 
     fn connect(&mut self) -> Result<Reply, Unanswered> {
-        let letterbox = PlainMailbox::new(self.alloc)?;
-        let (pass, reply) = connect(self.rt, &self.bus, letterbox)?;
+        let mailbox = PlainMailbox::new(self.alloc)?;
+        let (pass, reply) = connect(self.rt, &self.bus, mailbox)?;
         self.last = pass.connection();
         match self.passes.insert(self.last, pass) {
             Ok(_) => Ok(reply),
@@ -192,10 +192,10 @@ impl<'a, B: BusBrand, R: Wait> Connected<'a, B, R> {
 fn connect<B: BusBrand, R: Wait>(
     rt: &R,
     bus: &Bus<B, PlainMailbox, &R>,
-    letterbox: PlainMailbox,
+    mailbox: PlainMailbox,
 ) -> Result<(Pass<B, PlainMailbox>, Reply), Unanswered> {
     let mut pass = bus.pass(rt)?;
-    match bus.connect(rt, &mut pass, letterbox) {
+    match bus.connect(rt, &mut pass, mailbox) {
         Ok(reply) => Ok((pass, reply)),
         Err(error) => {
             give_back(rt, bus, pass);

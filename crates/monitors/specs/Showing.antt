@@ -3,7 +3,7 @@ use Rattle.std.specs.Prelude.{◌≡◌, ◌++◌, ◌∷◌, [], ℕ, Bool, tru
 use Rattle.message_view.specs.Message.{Message}
 use Rattle.outbox.specs.Items.{Item}
 use Rattle.monitors.specs.declared.shown.Shown.{Shown}
-use Rattle.monitors.specs.declared.shown.Shown.TheVariants.{Put, Unwanted, Refused}
+use Rattle.monitors.specs.declared.shown.Shown.TheVariants.{Put, Unwanted, LeftOut, Refused}
 use Rattle.monitors.specs.Watching.{Watching}
 use Rattle.monitors.specs.Wanting.{Wants, WantsNot}
 
@@ -19,14 +19,19 @@ message_of bytes = record { bytes = bytes; mark = None; hold = None }
 abbrev pub with_put : Item → Watching → Watching
 with_put message monitor = record monitor { put = monitor.put ++ message ∷ [] }
 
--- the message was put, or nothing changed
+-- the monitor after its outbox refused a message, which is then known to be shut
+abbrev pub with_shut : Watching → Watching
+with_shut monitor = record monitor { knows_shut = true }
+
+-- the message was put, or the outbox is shut
 abbrev pub PutThere : Item → Shown → Watching → Watching → Type 0
 PutThere message Put old new = new ≡ with_put message old
-PutThere message Refused old new = new ≡ old
+PutThere message Refused old new = new ≡ with_shut old
 PutThere message _ old new = ⊥
 
--- what the monitor wants is put, unless memory or the outbox refuses it, and nothing else is
+-- what the monitor wants is put, unless memory is refused or the outbox is shut, and nothing else is
 abbrev pub ShownThere : (List ℕ → Bool → Type 0) → Message → List ℕ → Shown → Watching → Watching → Type 0
 ShownThere answers m bytes Put old new = (new ≡ with_put (message_of bytes) old) × Wants answers m old.rules
 ShownThere answers m bytes Unwanted old new = (new ≡ old) × WantsNot answers m old.rules
-ShownThere answers m bytes _ old new = (new ≡ old) × Wants answers m old.rules
+ShownThere answers m bytes Refused old new = (new ≡ with_shut old) × Wants answers m old.rules
+ShownThere answers m bytes LeftOut old new = (new ≡ old) × Wants answers m old.rules

@@ -29,7 +29,7 @@ impl<M: Mailbox> Model for Monitor<M> {
 
     ghost Value = { Watching };
 
-    ghost view = { λ m. record { number = m.number; rules = m.rules.items; put = m.seat.view.put } };
+    ghost view = { λ m. record { number = m.number; rules = m.rules.items; put = m.seat.view.put; knows_shut = m.seat.knows_shut } };
 
     ghost invariant = { λ m. m.seat.outbox ≡ M.outbox_of m.mailbox };
 }
@@ -51,7 +51,7 @@ impl<M: Mailbox> Monitor<M> {
 
     /// A monitor of the connection of this number. Nothing is put yet.
     pub(crate) fn new(number: u64, mailbox: M, rules: Vec<Rule>) -> Monitor<M>
-        ensures { result ≡ record { number = number; rules = rules.items; put = [] } }
+        ensures { (result.number ≡ number) × (result.rules ≡ rules.items) × (result.put ≡ []) }
     {
         let seat = mailbox.outbox().seat();
         Monitor {

@@ -1,5 +1,5 @@
 -- What the calls of a pass do, under the lock of the bus (own).
-use Rattle.std.specs.Prelude.{◌≡◌, ◌≢◌, ◌⊎◌, ◌+◌, ◌<◌, ℕ, Bool, true, false, [], ◌∷◌, ◌++◌, length, Result, Ok, Err}
+use Rattle.std.specs.Prelude.{◌≡◌, ◌≢◌, ◌⊎◌, ◌+◌, ◌<◌, ℕ, Bool, true, false, List, [], ◌∷◌, ◌++◌, length, Result, Ok, Err}
 use mathlib.Core.List.{IsPrefix}
 use Rattle.program_table.specs.declared.capacity.Capacity.{Capacity}
 use Rattle.program_table.specs.declared.command.Command.{Command}
@@ -17,13 +17,21 @@ use Rattle.passes.specs.Errors.{error_of}
 use Rattle.passes.specs.Passes.{PassState}
 
 module _ {M : Type 0} where
-  -- the connection of this number is there and has no claim on a name, after what is published
-  abbrev pub ClaimsNothing : ℕ → Publication M → Type 0
-  ClaimsNothing connection now = reply_to (after now.history) (DropOne connection) ≡ Nothing
+  -- the connection of this number is there and has no claim on a name, after this history
+  abbrev pub HasNoClaim : ℕ → List (Command M) → Type 0
+  HasNoClaim connection history = reply_to (after history) (DropOne connection) ≡ Nothing
 
-  -- it has a claim, or isn't there
-  abbrev pub ClaimsOrIsGone : ℕ → Publication M → Type 0
-  ClaimsOrIsGone connection now = reply_to (after now.history) (DropOne connection) ≢ Nothing
+  -- the pass has seen what is published, which begins with what it had seen
+  abbrev pub HasSeenAll : PassState M → Publication M → PassState M → Type 0
+  HasSeenAll v now w = IsPrefix v.seen now.history × (w ≡ record v { seen = now.history })
+
+  -- the pass has seen what is published, after which its connection is there and has no claim on a name
+  abbrev pub ClaimsNothing : PassState M → Publication M → PassState M → Type 0
+  ClaimsNothing v now w = HasSeenAll v now w × HasNoClaim v.connection now.history
+
+  -- its connection has a claim there, or isn't there; or fewer commands are published than it has seen
+  abbrev pub ClaimsOrIsGone : PassState M → Publication M → PassState M → Type 0
+  ClaimsOrIsGone v now w = (HasSeenAll v now w × (HasNoClaim v.connection now.history → ⊥)) ⊎ ((length now.history < length v.seen) × (w ≡ v))
 
   -- What is said of a call through the bus: it is so of what was published when it had the lock, and after it.
   abbrev pub Once : (Publication M → Publication M → Type 0) → Type 0
@@ -69,6 +77,10 @@ module _ {M : Type 0} where
     -- fewer commands are published than it has seen
     fewer : length before.history < length v.seen → IsShutOut v before
 
+  -- the pass after a call that was Closed, or has ended the bus
+  abbrev pub shut_out : PassState M → PassState M
+  shut_out v = record v { is_shut_out = true }
+
   -- Nothing was published, and the pass has seen at least what it had.
   pub record IsStopped (v : PassState M) (before : Publication M) (w : PassState M) (next : Publication M) : Type 0 where
     pub begins : IsPrefix v.seen w.seen
@@ -79,9 +91,9 @@ module _ {M : Type 0} where
   abbrev pub EndsBus : Publication M → BusError → Publication M → Type 0
   EndsBus before error next = (error ≡ errors.NoMemory) × (before.has_ended ≡ false) × (next.has_ended ≡ true)
 
-  -- it was shut out, or has ended the bus
+  -- it was shut out, or has ended the bus, and the pass tells so from then on
   abbrev pub IsClosed : PassState M → Publication M → BusError → PassState M → Publication M → Type 0
-  IsClosed v before error w next = IsStopped v before w next × (((error ≡ errors.Closed) × IsShutOut v before) ⊎ EndsBus before error next)
+  IsClosed v before error w next = IsStopped (shut_out v) before w next × (((error ≡ errors.Closed) × IsShutOut v before) ⊎ EndsBus before error next)
 
   -- a call that publishes a command of the pass's connection
   abbrev pub Answers : Bool → PassState M → Publication M → Command M → Result Reply BusError → PassState M → Publication M → Type 0

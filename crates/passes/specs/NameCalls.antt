@@ -13,7 +13,7 @@ use Rattle.passes.specs.declared.error.BusError.{BusError}
 use Rattle.passes.specs.declared.error.BusError.TheVariants.{Closed}
 use Rattle.passes.specs.declared.name_call.NameCall.{NameCall}
 use Rattle.passes.specs.declared.name_call.NameCall.TheVariants.{Request, Release, DropOne}
-use Rattle.passes.specs.Calls.{IsStopped, IsShutOut}
+use Rattle.passes.specs.Calls.{IsStopped, IsShutOut, shut_out}
 use Rattle.passes.specs.Passes.{PassState}
 
 -- the change of a name's owner that a reply tells of
@@ -33,4 +33,4 @@ module _ {M : Type 0} where
   -- call, and nothing is told.
   abbrev pub Foresees : PassState M → Publication M → Command M → Result (Option Change) BusError → PassState M → Type 0
   Foresees v now command (Ok change) w = (change ≡ change_in (reply_to (after now.history) command)) × IsPrefix v.seen now.history × (w ≡ record v { seen = now.history })
-  Foresees v now command (Err error) w = (error ≡ Closed) × IsStopped v now w now × IsShutOut v now
+  Foresees v now command (Err error) w = (error ≡ Closed) × IsStopped (shut_out v) now w now × IsShutOut v now

@@ -7,12 +7,13 @@ use Rattle.passes.specs.declared.reading.Source.{Source}
 use Rattle.passes.specs.declared.reading.Source.TheVariants.{Own, Bus}
 
 -- the history that it has seen; the connection that its connect made, 0 before that; whether its close was accepted;
--- how many of its calls were accepted; the count of its last broadcast, 0 before the first; and its seats at the
--- outboxes of those to whom it has sent
+-- whether a call of its connection was Closed, or has ended the bus; how many of its calls were accepted; the count of its last
+-- broadcast, 0 before the first; and its seats at the outboxes of those to whom it has sent
 pub record PassState (M : Type 0) : Type 0 where
   pub seen : List (Command M)
   pub connection : ℕ
   pub is_closed : Bool
+  pub is_shut_out : Bool
   pub took : ℕ
   pub count : ℕ
   pub recipient_seats : List RecipientSeatView
@@ -24,7 +25,7 @@ max_kept = 256
 module _ {M : Type 0} where
   -- a pass that has seen this, and did nothing
   abbrev pub new_pass : List (Command M) → PassState M
-  new_pass seen = record { seen = seen; connection = 0; is_closed = false; took = 0; count = 0; recipient_seats = [] }
+  new_pass seen = record { seen = seen; connection = 0; is_closed = false; is_shut_out = false; took = 0; count = 0; recipient_seats = [] }
 
   -- as many commands of its connection as it took were seen, its connect among them
   pub record HasTaken (v : PassState M) : Type 0 where

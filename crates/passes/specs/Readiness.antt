@@ -5,7 +5,7 @@ use Rattle.published.specs.Publication.{Publication}
 use Rattle.passes.specs.declared.error.BusError.{BusError}
 use Rattle.passes.specs.declared.error.BusError.TheVariants as errors
 use Rattle.passes.specs.Passes.{PassState, HasTaken}
-use Rattle.passes.specs.Calls.{IsStopped, IsShutOut}
+use Rattle.passes.specs.Calls.{IsStopped, IsShutOut, shut_out}
 use Rattle.passes.specs.Admission.{IsAdmitted}
 
 module _ {M : Type 0} where
@@ -19,4 +19,4 @@ module _ {M : Type 0} where
   -- a pass is admitted, or Closed
   abbrev pub Admits : PassState M → Publication M → Result (Unit {0}) BusError → PassState M → Type 0
   Admits v before (Ok _) w = IsAdmitted v before × (w ≡ record v { seen = before.history }) × IsReady w before × HasTaken v
-  Admits v before (Err error) w = (error ≡ errors.Closed) × IsStopped v before w before × IsShutOut v before
+  Admits v before (Err error) w = (error ≡ errors.Closed) × IsStopped (shut_out v) before w before × IsShutOut v before

@@ -91,7 +91,7 @@ impl<B: BusBrand, M: Mailbox, R: Wait + Drop> Control<B, M, R> {
     pub fn pass_without_reader(&self) -> Pass<B, M>
         ensures { result ≡ new_pass self.now.history }
     {
-        Pass::new(self.publisher.value.sight_without_reader())
+        Pass::new(self.publisher.value.history_without_reader())
     }
 
     /// A new reader, for the passes to which it will be lent.
@@ -117,10 +117,14 @@ impl<B: BusBrand, M: Mailbox, R: Wait + Drop> Control<B, M, R> {
         }
     }
 
-    /// Whether the pass's connection is there and has no claim on a name, so that `drop_name` would find nothing.
-    pub fn claims_nothing(&self, pass: &Pass<B, M>) -> bool
-        ensures { MatchBool result (ClaimsNothing pass.now.connection self.now) (ClaimsOrIsGone pass.now.connection self.now) }
+    /// Whether the pass's connection is there and has no claim on a name, so that `drop_name` would find nothing. The pass has then
+    /// seen what is published.
+    pub fn claims_nothing(&self, pass: &mut Pass<B, M>) -> bool
+        ensures { MatchBool result (ClaimsNothing pass.old self.now pass.new) (ClaimsOrIsGone pass.old self.now pass.new) }
     {
+        if self.tell(pass).is_err() {
+            return false;
+        }
         let command = Command::DropOne(pass.connection());
         matches!(self.state().answer(&command), Reply::Nothing)
     }
@@ -140,10 +144,15 @@ impl<B: BusBrand, M: Mailbox, R: Wait + Drop> Control<B, M, R> {
         let connection = pass.connection();
         let took = pass.took();
         if connection == 0 || pass.is_closed() || self.publisher.value.has_ended() {
+            pass.shut_out();
             return Err(BusError::Closed);
         }
-        self.tell(pass)?;
+        if self.tell(pass).is_err() {
+            pass.shut_out();
+            return Err(BusError::Closed);
+        }
         if self.state().commands_of(connection) != took {
+            pass.shut_out();
             return Err(BusError::Closed);
         }
         let _took = pass.took();
@@ -162,8 +171,14 @@ impl<B: BusBrand, M: Mailbox, R: Wait + Drop> Control<B, M, R> {
     {
         let reply = match self.publisher.value.publish(command) {
             Ok(reply) => reply,
-            Err(PublishError::NoMemory) => return Err(BusError::NoMemory),
-            Err(PublishError::Ended) => return Err(BusError::Closed),
+            Err(PublishError::NoMemory) => {
+                pass.shut_out();
+                return Err(BusError::NoMemory);
+            }
+            Err(PublishError::Ended) => {
+                pass.shut_out();
+                return Err(BusError::Closed);
+            }
         };
         if let Reply::Refused(refusal) = reply {
             return Err(BusError::of(refusal));

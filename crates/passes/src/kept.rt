@@ -21,7 +21,7 @@ pub struct KeptPasses<B: BusBrand, M: Mailbox>
 where
     Published: Protocol<Shown<B, M>, LinkedList<Command<M>>>,
 {
-    sights: Vec<HistoryReader<B, M>>,
+    history_readers: Vec<HistoryReader<B, M>>,
 }
 
 impl<B: BusBrand, M: Mailbox> Model for KeptPasses<B, M>
@@ -35,9 +35,9 @@ where
 
     ghost Value = { List (List (Command M)) };
 
-    ghost view = { λ k. k.sights.items };
+    ghost view = { λ k. k.history_readers.items };
 
-    ghost invariant = { λ k. max_kept ≤ vec_capacity k.sights };
+    ghost invariant = { λ k. max_kept ≤ vec_capacity k.history_readers };
 }
 
 impl<B: BusBrand, M: Mailbox> KeptPasses<B, M> {
@@ -46,7 +46,7 @@ impl<B: BusBrand, M: Mailbox> KeptPasses<B, M> {
         ensures { IfOk result (λ kept. kept ≡ []) }
     {
         Ok(KeptPasses {
-            sights: Vec::with_capacity(alloc, KEPT)?,
+            history_readers: Vec::with_capacity(alloc, KEPT)?,
         })
     }
 
@@ -54,8 +54,9 @@ impl<B: BusBrand, M: Mailbox> KeptPasses<B, M> {
     pub fn put(&mut self, pass: Pass<B, M>)
         ensures { self.new ≡ (if nat_lt (length self.old) max_kept then self.old ++ pass.seen ∷ [] else self.old) }
     {
-        if self.sights.len() < KEPT {
-            self.sights.push_reserved(pass.into_sight());
+        if self.history_readers.len() < KEPT {
+            self.history_readers
+                .push_reserved(pass.into_history_reader());
         }
     }
 
@@ -63,7 +64,7 @@ impl<B: BusBrand, M: Mailbox> KeptPasses<B, M> {
     pub fn take(&mut self) -> Option<Pass<B, M>>
         ensures { MatchOption result ((self.old ≡ []) × (self.new ≡ [])) (λ pass. (self.old ≡ self.new ++ pass.seen ∷ []) × (pass ≡ new_pass pass.seen)) }
     {
-        match self.sights.pop() {
+        match self.history_readers.pop() {
             Some(history_reader) => Some(Pass::new(history_reader)),
             None => None,
         }

@@ -4,6 +4,7 @@ ghost use Rattle.std.specs.Prelude.{◌≡◌, ◌≢◌, ◌⊎◌, ◌+◌, �
 ghost use mathlib.Core.List.{IsPrefix};
 ghost use Rattle.program_table.specs.History.{own_commands};
 ghost use Rattle.passes.specs.Passes.{PassState, HasTaken, IsOpenTo, new_pass};
+ghost use Rattle.passes.specs.Calls.{shut_out};
 ghost use Rattle.passes.specs.Sending.{sending};
 
 use crate::error::BusError;
@@ -26,6 +27,8 @@ where
     // 0 where the pass was never connected.
     connection: u64,
     is_closed: bool,
+    // A call was Closed, or has ended the bus.
+    is_shut_out: bool,
     took: u64,
     // It exists from the first message on.
     pub(crate) sender: Option<Sender<M>>,
@@ -40,9 +43,9 @@ where
 
     ghost Value = { PassState M };
 
-    ghost view = { λ p. record { seen = p.history_reader; connection = p.connection; is_closed = p.is_closed; took = p.took; count = count_in p.sender; recipient_seats = recipient_seats_in p.sender } };
+    ghost view = { λ p. record { seen = p.history_reader; connection = p.connection; is_closed = p.is_closed; is_shut_out = p.is_shut_out; took = p.took; count = count_in p.sender; recipient_seats = recipient_seats_in p.sender } };
 
-    ghost invariant = { λ p. HasTaken (record { seen = p.history_reader; connection = p.connection; is_closed = p.is_closed; took = p.took; count = count_in p.sender; recipient_seats = recipient_seats_in p.sender }) × SendsFor p.connection p.sender };
+    ghost invariant = { λ p. HasTaken (record { seen = p.history_reader; connection = p.connection; is_closed = p.is_closed; is_shut_out = p.is_shut_out; took = p.took; count = count_in p.sender; recipient_seats = recipient_seats_in p.sender }) × SendsFor p.connection p.sender };
 }
 
 impl<B: BusBrand, M: Mailbox> Pass<B, M> {
@@ -54,6 +57,7 @@ impl<B: BusBrand, M: Mailbox> Pass<B, M> {
             history_reader,
             connection: 0,
             is_closed: false,
+            is_shut_out: false,
             took: 0,
             sender: None,
         }
@@ -146,6 +150,13 @@ impl<B: BusBrand, M: Mailbox> Pass<B, M> {
         self.is_closed = true;
     }
 
+    /// Notes that a call of its connection was Closed, or has ended the bus, so that no later one is accepted.
+    pub(crate) fn shut_out(&mut self)
+        ensures { self.new ≡ shut_out self.old }
+    {
+        self.is_shut_out = true;
+    }
+
     /// Takes out what its messages are sent by, made anew where there was none. Until it is put back, the pass counts
     /// as one that sent nothing.
     pub(crate) fn take_sender(&mut self, alloc: Global) -> Sender<M>
@@ -169,13 +180,14 @@ impl<B: BusBrand, M: Mailbox> Pass<B, M> {
     }
 
     /// Gives up the pass, and keeps the reader with what it has seen.
-    pub(crate) fn into_sight(self) -> HistoryReader<B, M>
+    pub(crate) fn into_history_reader(self) -> HistoryReader<B, M>
         ensures { result ≡ self.seen }
     {
         let Self {
             history_reader,
             connection: _,
             is_closed: _,
+            is_shut_out: _,
             took: _,
             sender: _,
         } = self;

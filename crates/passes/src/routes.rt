@@ -15,7 +15,7 @@ use bytes::Bytes;
 use fan_out::MAX_RECIPIENTS;
 use message_view::View;
 use published::BusBrand;
-use routing::{Gate, Mailbox, OpenGate, RouteError, Sender};
+use routing::{Gate, Mailbox, RouteError, Sender};
 use std::alloc::{AllocError, Global};
 use std::sync::Wait;
 
@@ -41,7 +41,7 @@ fn route<M: Mailbox, W: Wait, G: Gate>(
         Ok(()) => {}
         Err(_) => return Err(BusError::NoMemory),
     }
-    match sender.route_gated(rt, alloc, recipients.as_slice(), bytes, gate, refused) {
+    match sender.broadcast(rt, alloc, recipients.as_slice(), bytes, gate, refused) {
         Ok(()) => Ok(()),
         Err(RouteError::NoMemory) => Err(BusError::NoMemory),
         Err(RouteError::Counts) => Err(BusError::Counts),
@@ -52,32 +52,14 @@ impl<B: BusBrand, M: Mailbox> Pass<B, M> {
     /// Finds the recipients of a broadcast, leaves the published state, and puts the message into their outboxes, without
     /// any lock. The caller's lists are then of this broadcast: its recipients, and those whose outbox refused it, a shut
     /// one included. No outbox gives the message out before it was put at all of them. Nothing is written out:
-    /// `push_out` does it.
+    /// `push_out` does it. `gate.before(0)` is called once the published state is left and the seats are there, before the
+    /// first put, and `gate.after(0)` after the last, before the message is given out.
     ///
     /// # Errors
     ///
     /// Nothing was put then. `Closed` if the pass was never connected, or was closed and the message isn't the bus's, or
     /// the bus is gone; `NoMemory`; `Counts` if the pass's last count was used.
-    pub fn broadcast<W: Wait>(
-        &mut self,
-        rt: &W,
-        alloc: Global,
-        source: Source,
-        view: &View<'_>,
-        bytes: &Bytes,
-        lists: &mut RouteLists,
-    ) -> Result<(), BusError>
-        // The view is that of the bytes.
-        requires { view.now ≡ bytes.now }
-        ensures routed { MatchResult result (λ _. HasRouted M.outbox_of source bytes.now self.old lists.new.recipients.items lists.new.refused.items self.new) (λ error. IsUnrouted M.outbox_of error self.old self.new) }
-        ensures open { IfOk result (λ _. IsOpenTo source self.old) }
-    {
-        self.broadcast_gated(rt, alloc, source, view, bytes, &OpenGate, lists)
-    }
-
-    /// Routes as `broadcast` does. `gate.before(0)` is called once the published state is left and the seats are there,
-    /// before the first put, and `gate.after(0)` after the last, before the message is given out.
-    pub fn broadcast_gated<W: Wait, G: Gate>(
+    pub fn broadcast<W: Wait, G: Gate>(
         &mut self,
         rt: &W,
         alloc: Global,

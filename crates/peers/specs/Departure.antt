@@ -4,10 +4,10 @@ use Rattle.outbox.specs.Seated.{OutboxId}
 use Rattle.owners.specs.Registry.{max_claims}
 use Rattle.router.specs.BusError.{BusError}
 use Rattle.router.specs.BusError.TheVariants as errors
-use Rattle.router.specs.Calls.{Once, Answers, ClaimsNothing}
+use Rattle.router.specs.Calls.{Once, Answers, HasNoClaim}
 use Rattle.router.specs.Command.TheVariants.{Close}
 use Rattle.router.specs.NameCall.TheVariants.{DropOne}
-use Rattle.router.specs.Publication.{Publication}
+use Rattle.router.specs.Passes.{PassState}
 use Rattle.router.specs.Reply.{Reply}
 use Rattle.router.specs.Reply.TheVariants as replies
 use Rattle.router.specs.Routes.{pass_written}
@@ -19,7 +19,7 @@ use Rattle.peers.specs.declared.leaving.Leaving.TheVariants.{Done, Ended, Refuse
 use Rattle.peers.specs.Announcements.{HasSignalled, change_asked}
 use Rattle.peers.specs.Calling.{AnswersCallers}
 use Rattle.peers.specs.OwnerChanges.{ChangesOwner}
-use Rattle.peers.specs.Passing.{with_pass}
+use Rattle.peers.specs.Passing.{HasSeenMore, with_pass}
 use Rattle.peers.specs.PeerState.{PeerState, name_of}
 use Rattle.peers.specs.Rows.{HasCalled}
 
@@ -32,13 +32,14 @@ giving_of (Err errors.NoMemory) = givings.Refused
 giving_of (Err _) = givings.Last
 
 module _ {M : Type 0} where
-  -- The pass gives up its claim on the least of its names, and a change of the owner is announced; or it has none in what is
-  -- published.
+  -- The peer has seen more. Then the pass gives up its claim on the least of its names, and a change of the owner is announced; or
+  -- it has none in what it has seen.
   abbrev pub GivesUpName : (M → OutboxId) → PeerState M → Giving → PeerState M → Type 0
   GivesUpName outbox_of v giving w =
-      ((asked : Result Reply BusError) × (announced : Result (Unit {0}) AnswerError)
-      × Once (λ before next. ChangesOwner outbox_of DropOne v before asked announced w next) × (giving ≡ giving_of asked))
-      ⊎ ((giving ≡ givings.Last) × (w ≡ v) × Once (λ (before : Publication M) next. ClaimsNothing v.pass.connection before))
+      (looked : PassState M) × HasSeenMore v.pass looked
+      × (((asked : Result Reply BusError) × (announced : Result (Unit {0}) AnswerError)
+      × Once (λ before next. ChangesOwner outbox_of DropOne (with_pass v looked) before asked announced w next) × (giving ≡ giving_of asked))
+      ⊎ ((giving ≡ givings.Last) × (w ≡ with_pass v looked) × HasNoClaim looked.connection looked.seen))
 
   -- this many names were given up, one after the other
   abbrev pub GivesUpNames : (M → OutboxId) → ℕ → PeerState M → PeerState M → Type 0

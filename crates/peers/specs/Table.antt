@@ -58,6 +58,7 @@ module _ {M : Type 0} where
   Performs outbox_of shares request calls.GetAll v result w = Replies request bodies.Properties v result w
   Performs outbox_of shares request calls.GetAllOfNone v result w = Replies request bodies.EmptyDict v result w
   Performs outbox_of shares request calls.UpdateActivationEnvironment v result w = Replies request bodies.Nothing v result w
+  Performs outbox_of shares request calls.ReloadConfig v result w = Replies request bodies.Nothing v result w
   Performs outbox_of shares request calls.ListNames v result w = AnswersFound AreAllNames request v result w
   Performs outbox_of shares request (calls.ListQueuedOwners name) v result w = AnswersFound (AreQueuedFor name.now) request v result w
   Performs outbox_of shares request calls.GetId v result w = RepliesDigits request (bus_id v.identity) v result w

@@ -16,7 +16,7 @@ use bus_messages::{BuildError, Bytes, UniqueName, name_acquired, name_lost, name
 use message_view::View;
 use outbox::Counts;
 use owners::Change;
-use router::{BusBrand, Mailbox, RouteLists, Source};
+use router::{BusBrand, Mailbox, OpenGate, RouteLists, Source};
 use std::sync::Wait;
 
 impl<B: BusBrand, M: Mailbox> Peer<B, M> {
@@ -231,9 +231,15 @@ impl<B: BusBrand, M: Mailbox> Peer<B, M> {
             Source::Bus => None,
         };
         context.bus.show(context.rt, context.alloc, number, bytes);
-        let routed = self
-            .pass
-            .broadcast(context.rt, context.alloc, source, view, bytes, lists);
+        let routed = self.pass.broadcast(
+            context.rt,
+            context.alloc,
+            source,
+            view,
+            bytes,
+            &OpenGate,
+            lists,
+        );
         match routed {
             Ok(()) => {
                 self.note_broadcast(source, lists);

@@ -81,7 +81,7 @@ impl<B: BusBrand, M: Mailbox> Peer<B, M> {
         ensures { GivesUpName M.outbox_of self.old result self.new }
     {
         let mut control = context.bus.control(context.rt);
-        if control.claims_nothing(&self.pass) {
+        if control.claims_nothing(&mut self.pass) {
             return Giving::Last;
         }
         let (dropped, _) = self.change_owner(context, lists, &mut control, &NameCall::DropOne);

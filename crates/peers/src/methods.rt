@@ -93,7 +93,9 @@ impl<B: BusBrand, M: Mailbox> Peer<B, M> {
             Call::GetStats => self.get_stats(context, request),
             Call::GetConnectionStats(name) => self.get_connection_stats(context, request, name),
             Call::GetAllMatchRules => self.get_all_match_rules(context, request),
-            Call::UpdateActivationEnvironment => self.answer(context, request, Body::Nothing),
+            Call::UpdateActivationEnvironment | Call::ReloadConfig => {
+                self.answer(context, request, Body::Nothing)
+            }
         }
     }
 

@@ -30,16 +30,16 @@ impl Shares {
         }
     }
 
-    /// What a client of `dbusfan serve` may have: 512 rules and programs, 65,536 instructions, 512 names, and 1,024
+    /// What a client of `dbusfan serve` may have: 512 rules and programs, 65,536 instructions, 512 names, and 50,000
     /// calls that wait.
     pub fn standard() -> Shares
-        ensures { result ≡ record { entries = 512; instructions = 65536; names = 512; calls = 1024 } }
+        ensures { result ≡ record { entries = 512; instructions = 65536; names = 512; calls = 50000 } }
     {
         Shares {
             entries: 512,
             instructions: 65_536,
             names: 512,
-            calls: 1_024,
+            calls: 50_000,
         }
     }
 }

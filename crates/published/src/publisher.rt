@@ -310,7 +310,7 @@ impl<B: BusBrand, M: Handle, R: Wait + Drop> Publisher<B, M, R> {
     }
 
     /// The published history as it is seen without a reader, until one is lent.
-    pub fn sight_without_reader(&self) -> HistoryReader<B, M>
+    pub fn history_without_reader(&self) -> HistoryReader<B, M>
         ensures { result ≡ self.now.history }
     {
         HistoryReader::without_reader(self.front())

@@ -5,7 +5,7 @@ ghost use mathlib.Core.List.{IsPrefix};
 ghost use Rattle.passes.specs.Command.TheVariants.{Detach, Request, Release, DropOne, Close};
 ghost use Rattle.passes.specs.Publication.{Publication};
 ghost use Rattle.passes.specs.Passes.{PassState, new_pass};
-ghost use Rattle.passes.specs.Calls.{Once, Answers, ClaimsNothing, ClaimsOrIsGone, Connects};
+ghost use Rattle.passes.specs.Calls.{Once, Answers, Connects};
 ghost use Rattle.passes.specs.Readings.{AddsMatch, RemovesMatch, Attaches};
 
 use bpf_code::Ins;
@@ -274,13 +274,6 @@ impl<B: BusBrand, M: Mailbox, R: Wait + Drop> Bus<B, M, R> {
         ensures connection { pass.new.connection ≡ pass.old.connection }
     {
         self.control(rt).drop_name(pass)
-    }
-
-    /// Whether the connection is there and has no claim on a name, so that `drop_name` would find nothing.
-    pub fn claims_nothing(&self, rt: &impl Wait, pass: &Pass<B, M>) -> bool
-        ensures { Once (λ (before : Publication M) next. MatchBool result (ClaimsNothing pass.now.connection before) (ClaimsOrIsGone pass.now.connection before)) }
-    {
-        self.control(rt).claims_nothing(pass)
     }
 
     /// Closes the connection, with its entries and claims.

@@ -4,7 +4,6 @@
 #![tactic(auto)]
 
 mod bus;
-mod gated;
 mod plain_mailbox;
 mod routes;
 mod unicasts;
@@ -15,6 +14,7 @@ pub use monitors::Monitors;
 pub use open_calls::{OpenCall, OpenCalls};
 pub use passes::{BusError, Control, NameCall, Pass, RouteLists, Sent, Source};
 pub use plain_mailbox::PlainMailbox;
+pub use routing::OpenGate;
 
 // Passed on from the crates below, so that the crates above need not name those in crates.txt.
 pub use passes::{

@@ -6,7 +6,7 @@ ghost use Rattle.routing.specs.Puts.{RoutedTo, PutOnce};
 
 use crate::error::RouteError;
 use crate::events::{begin, end};
-use crate::gate::{Gate, OpenGate};
+use crate::gate::Gate;
 use crate::mailbox::Mailbox;
 use crate::recipient::Recipient;
 use crate::recipient_seats::{
@@ -30,7 +30,7 @@ pub enum Sent {
 /// The sender of a pass's broadcasts: the pass's connection, which is their origin, the count of the last one, and a
 /// seat at each outbox that it needed so far. The broadcasts of the bus itself have the origin and a count of the pass
 /// that routes them too. A broadcast is given out by no outbox before it was put at all its recipients: it is held until it
-/// is released, which is at the end of `route`, or, after `hold`, with all that was put since.
+/// is released, which is at the end of `broadcast`, or, after `hold`, with all that was put since.
 #[derive(Drop)]
 pub struct Sender<C> {
     origin: u64,
@@ -85,33 +85,12 @@ impl<C: Mailbox> Sender<C> {
         take_seat(&mut self.recipient_seats, recipient)
     }
 
-    /// Puts a broadcast with these bytes into the outboxes of its recipients, whose numbers rise, and answers those whose
-    /// outbox refused it, a shut one included. The shares of the message are taken before the first put, so after an
-    /// error nothing was put and the count isn't used.
-    pub fn route<R: Wait>(
-        &mut self,
-        rt: &R,
-        alloc: Global,
-        recipients: &[u64],
-        bytes: &Bytes,
-    ) -> Result<ArrayVec<u64, 4096>, RouteError>
-        requires few { length recipients.now ≤ 4096 }
-        requires rising { RisesFrom 0 recipients.now }
-        requires seats { AllHave recipients.now self.old.recipient_seats }
-        ensures ok { IfOk result (λ refused. Routed bytes.now recipients.now refused.items self.old self.new) }
-        ensures keeps { Keeps [] self.old self.new }
-        ensures err { OnErr result (self.new ≡ self.old) }
-        ensures counts { (result ≡ Err RouteError.Counts) ↔ (self.old.count ≡ u64.MAX) }
-    {
-        let mut refused = ArrayVec::new();
-        self.route_gated(rt, alloc, recipients, bytes, &OpenGate, &mut refused)?;
-        Ok(refused)
-    }
-
-    /// Routes a broadcast as `route` does, and lists into an empty list of the caller's. `gate.before(0)` is called once
-    /// the shares are there, before the first put, and `gate.after(0)` after the last put, before the broadcast is released;
-    /// neither is called where the answer is an error.
-    pub fn route_gated<R: Wait, G: Gate>(
+    /// Puts a broadcast with these bytes into the outboxes of its recipients, whose numbers rise, and lists those whose outbox
+    /// refused it, a shut one included, in an empty list of the caller's. The shares of the message are taken before the first
+    /// put, so after an error nothing was put and the count isn't used. `gate.before(0)` is called once the shares are there,
+    /// before the first put, and `gate.after(0)` after the last put, before the broadcast is released; neither is called if the
+    /// answer is an error.
+    pub fn broadcast<R: Wait, G: Gate>(
         &mut self,
         rt: &R,
         alloc: Global,

@@ -1,7 +1,7 @@
 // Whom the bus lets in.
 
-ghost use Rattle.std.specs.Prelude.{IfOk};
-ghost use Rattle.serve_command.specs.Admitting.{AdmitsAsAsked};
+ghost use Rattle.std.specs.Prelude.{◌≡◌, IfOk};
+ghost use Rattle.serve_command.specs.Admitting.{AdmitsAsAsked, is_tcp};
 
 use crate::error::Refusal;
 use crate::options::Options;
@@ -21,7 +21,7 @@ use std::time::Clock;
 const HOME: &str = "HOME";
 
 /// By what the clients of a listener may log in: at a Unix socket EXTERNAL as the bus's own user, over TCP the user's cookie,
-/// and what is asked for.
+/// and what is asked for. Who lets in whoever claims any user lets in who claims nobody too, over TCP by ANONYMOUS.
 pub(crate) fn mechanisms_of<R>(
     rt: &R,
     alloc: Global,
@@ -30,9 +30,10 @@ pub(crate) fn mechanisms_of<R>(
 ) -> Result<Mechanisms, Refusal>
 where
     R: Files + Env + Wait + Clock + RandomSource + Alloc,
-    ensures { IfOk result (λ mechanisms. AdmitsAsAsked options.entry mechanisms) }
+    ensures { IfOk result (λ mechanisms. AdmitsAsAsked options.entry (is_tcp listener.now) mechanisms) }
 {
-    let anonymous = options.allows_anonymous;
+    // GLib's clients claim nobody over TCP, where no user is known to them.
+    let anonymous = options.allows_anonymous || options.allows_external && is_tcp(listener);
     let external = match listener {
         _ if options.allows_external => External::Anybody,
         Listener::Unix(_, _) => External::User(own_user(rt).map_err(|_| Refusal::no_user())?),
@@ -47,6 +48,13 @@ where
         keyring,
         anonymous,
     })
+}
+
+/// Whether clients come over TCP.
+fn is_tcp(listener: &Listener) -> bool
+    ensures { result ≡ is_tcp listener.now }
+{
+    matches!(listener, Listener::Tcp(_))
 }
 
 /// The keyring of the bus's own user, which is of use on this machine alone.

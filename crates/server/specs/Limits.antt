@@ -40,7 +40,7 @@ unit_of Clients = codes "clients"
 unit_of Newcomers = codes "connections"
 unit_of Hello = codes "seconds"
 
--- the number of each limit where no other is asked for; of rules, names, newcomers and hello it is dbus-daemon's own
+-- the number of each limit where no other is asked for; of rules, names, calls, newcomers and hello it is dbus-daemon's own
 abbrev pub standard_of : Limit → ℕ
 standard_of Rules = 512
 standard_of AllRules = 16384
@@ -49,9 +49,9 @@ standard_of AllInstructions = 4096000
 standard_of Names = 512
 standard_of AllNames = 1024
 standard_of Claims = 4096
-standard_of Calls = 1024
-standard_of Messages = 16384
-standard_of Bytes = 16777216
+standard_of Calls = 50000
+standard_of Messages = 100000
+standard_of Bytes = 67108864
 standard_of Unfinished = 33554432
 standard_of Silence = 30
 standard_of Clients = 256

@@ -157,19 +157,19 @@ impl Limit {
             },
             Limit::Calls => Terms {
                 name: "calls",
-                standard: 1_024,
+                standard: 50_000,
                 most: u32::MAX,
                 unit: "calls",
             },
             Limit::Messages => Terms {
                 name: "messages",
-                standard: 16_384,
+                standard: 100_000,
                 most: u32::MAX,
                 unit: "messages",
             },
             Limit::Bytes => Terms {
                 name: "bytes",
-                standard: 16_777_216,
+                standard: 67_108_864,
                 most: u32::MAX,
                 unit: "bytes",
             },

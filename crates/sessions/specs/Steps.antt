@@ -1,7 +1,7 @@
 -- What a session does with its client's bytes (D-Bus Specification, "Message Format" and "Message Bus Message Routing").
-use Rattle.std.specs.Prelude.{ℕ, ◌≡◌, ◌⊎◌, ◌↔◌, ◌++◌, take, IsTrue, Bool, true, false, List, Option, Some, None, Result, Ok, Err, IsErr}
+use Rattle.std.specs.Prelude.{ℕ, ◌≡◌, ◌⊎◌, ◌↔◌, ◌++◌, take, IsTrue, Bool, true, false, List, [], Option, Some, None, Result, Ok, Err, IsErr}
 use Rattle.auth.specs.Talk.{Standing, talk, taken_of}
-use Rattle.auth.specs.declared.stage.Stage.TheVariants.{Begun}
+use Rattle.auth.specs.declared.stage.Stage.TheVariants.{Begun, Failed}
 use Rattle.outbox.specs.Seated.{OutboxId}
 use Rattle.message_view.specs.Message.{Message}
 use Rattle.message_view.specs.Valid.{Valid}
@@ -18,7 +18,7 @@ use Rattle.sessions.specs.Hello.{is_hello}
 use Rattle.sessions.specs.Newcomers.{IsNewcomer}
 use Rattle.sessions.specs.SessionState.{SessionState, outbox_after}
 use Rattle.sessions.specs.declared.error.SessionError.{SessionError}
-use Rattle.sessions.specs.declared.error.SessionError.TheVariants.{Message as faulty, NoMemory, Slow}
+use Rattle.sessions.specs.declared.error.SessionError.TheVariants.{Auth, Message as faulty, NoMemory, Slow}
 use Rattle.sessions.specs.declared.step.Step.{Step}
 use Rattle.sessions.specs.declared.step.Step.TheVariants.{Done, Waits}
 
@@ -35,6 +35,10 @@ IsFaultOf unread _ = ⊥
 -- a line leads the talk from where it stands to where it then stands, and messages come next exactly where it then is over
 abbrev pub Hears : List ℕ → Standing → Standing → Bool → Type 0
 Hears line standing later has_begun = ((talk standing line).standing ≡ later) × (IsTrue has_begun ↔ (later.stage ≡ Begun))
+
+-- why a line ends the session: it has failed the talk, or there was no room or no memory for its answer
+abbrev pub EndsTalk : SessionError → Standing → Type 0
+EndsTalk error later = ((error ≡ Auth) × (later.stage ≡ Failed)) ⊎ ((error ≡ Slow) ⊎ (error ≡ NoMemory))
 
 module _ {M : Type 0} where
   -- The client's outbox is found to be shut, and nothing else has changed. Before Hello clauses don't see what its outbox
@@ -71,14 +75,16 @@ module _ {M : Type 0} where
       (IsFaultOf v.unread error × (w ≡ v))
       ⊎ ((message rest : List ℕ) × IsMessage message × (v.unread ≡ message ++ rest) × Takes outbox_of shares message v.outbox v.peer (Err error) w.peer × (w ≡ record v { outbox = outbox_after w.peer v.outbox; peer = w.peer }))
 
-  -- The next line of the talk is heard, and is then no longer there: as many bytes as the talk takes. Or there is none; or
-  -- the session ends.
+  -- The next line of the talk is heard, and is then no longer there: as many bytes as the talk takes. Or nothing is there, or the
+  -- client has no outbox for an answer any more; or the session ends where the line has led the talk.
   abbrev pub TakesLine : SessionState M → Result Step SessionError → SessionState M → Type 0
   TakesLine v (Ok Done) w =
       (line : List ℕ) × (v.unread ≡ line ++ w.unread) × (line ≡ take (taken_of v.standing v.unread) v.unread)
       × Hears line v.standing w.standing w.has_begun × (w ≡ record v { standing = w.standing; has_begun = w.has_begun; unread = w.unread })
-  TakesLine v (Ok Waits) w = w ≡ v
-  TakesLine v (Err error) w = w ≡ record v { standing = w.standing; has_begun = w.has_begun }
+  TakesLine v (Ok Waits) w = ((v.unread ≡ []) ⊎ (v.outbox ≡ None)) × (w ≡ v)
+  TakesLine v (Err error) w =
+      (w ≡ record v { standing = w.standing; has_begun = w.has_begun })
+      × (w.standing ≡ (talk v.standing (take (taken_of v.standing v.unread) v.unread)).standing) × EndsTalk error w.standing
 
   -- messages once the talk is over, and lines before
   abbrev pub TakesNext : Bool → (M → OutboxId) → Shares → SessionState M → Result Step SessionError → SessionState M → Type 0

@@ -50,9 +50,9 @@ fn open_session<B: BusBrand, O: Write + Drop>(
     guid: [u8; 32],
     writer: O,
 ) -> Result<(Session<B, PlainMailbox>, Writing<O>), AllocError> {
-    let letterbox = PlainMailbox::new(alloc)?;
-    let writing = Writing::new(letterbox.outbox(), writer)?;
-    Ok((Session::new(alloc, guid, letterbox), writing))
+    let mailbox = PlainMailbox::new(alloc)?;
+    let writing = Writing::new(mailbox.outbox(), writer)?;
+    Ok((Session::new(alloc, guid, mailbox), writing))
 }
 
 /// Reads to the end of the input, or to what ends the session before it.

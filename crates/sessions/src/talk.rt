@@ -1,8 +1,8 @@
 // The talk before messages begin.
 
-ghost use Rattle.std.specs.Prelude.{◌≡◌, ◌≤◌, None, length, take, IfOk, false};
-ghost use Rattle.auth.specs.Talk.{opening_with, taken_of};
-ghost use Rattle.sessions.specs.Steps.{Hears};
+ghost use Rattle.std.specs.Prelude.{◌≡◌, ◌⊎◌, ◌≤◌, None, length, take, IfErr, IfOk, false};
+ghost use Rattle.auth.specs.Talk.{opening_with, talk, taken_of};
+ghost use Rattle.sessions.specs.Steps.{EndsTalk, Hears};
 
 use crate::error::SessionError;
 use auth::{Admission, Auth};
@@ -53,6 +53,8 @@ impl Talk {
         ensures within { IfOk result (λ taken. taken ≤ length bytes.now) }
         ensures taken { IfOk result (λ taken. taken ≡ taken_of self.old.auth bytes.now) }
         ensures heard { IfOk result (λ taken. Hears (take taken bytes.now) self.old.auth self.new.auth self.new.has_begun) }
+        ensures led { self.new.auth ≡ (talk self.old.auth (take (taken_of self.old.auth bytes.now) bytes.now)).standing }
+        ensures ended { IfErr result (λ error. EndsTalk error self.new.auth) }
         ensures outbox { own.new.outbox ≡ own.old.outbox }
     {
         let Ok(fed) = self.auth.feed(bytes) else {
@@ -64,13 +66,15 @@ impl Talk {
     }
 }
 
+// Puts the answer to a line, if there is one.
 fn put_answer<M: Mailbox, W: Wait>(
     rt: &W,
     alloc: Global,
     own: &mut OwnOutbox<M>,
     answer: &[u8],
 ) -> Result<(), SessionError>
-    ensures { own.new.outbox ≡ own.old.outbox }
+    ensures outbox { own.new.outbox ≡ own.old.outbox }
+    ensures error { IfErr result (λ error. (error ≡ SessionError.Slow) ⊎ (error ≡ SessionError.NoMemory)) }
 {
     if answer.is_empty() {
         return Ok(());

@@ -28,18 +28,18 @@ fn route_to_itself<B: BusBrand, R: Wait + Abort>(
     requires { opened ≡ B.book }
 {
     let bus = new_bus::<B, R>(rt, alloc, opened);
-    let letterbox = new_letterbox(rt, alloc);
-    let mut pass = connect_with(rt, &bus, &letterbox);
+    let mailbox = new_letterbox(rt, alloc);
+    let mut pass = connect_with(rt, &bus, &mailbox);
     expect_reach(rt, &mut pass, false);
     route_s1(rt, alloc, &bus, &mut pass, &[]);
-    expect_letters(rt, alloc, &letterbox, 0);
+    expect_letters(rt, alloc, &mailbox, 0);
     attach_to_all(rt, alloc, &bus, &mut pass);
     expect_reach(rt, &mut pass, true);
     attach_to_all(rt, alloc, &bus, &mut pass);
     route_s1(rt, alloc, &bus, &mut pass, &[]);
-    expect_letters(rt, alloc, &letterbox, 1);
+    expect_letters(rt, alloc, &mailbox, 1);
     forget(pass);
-    forget(letterbox);
+    forget(mailbox);
     forget(bus);
 }
 
@@ -62,17 +62,17 @@ fn own_and_send<B: BusBrand, R: Wait + Abort>(rt: &R, alloc: Global, opened: Ope
     requires { opened ≡ B.book }
 {
     let bus = new_bus::<B, R>(rt, alloc, opened);
-    let letterbox = new_letterbox(rt, alloc);
+    let mailbox = new_letterbox(rt, alloc);
     let mut one = connect(rt, alloc, &bus);
-    let mut second_pass = connect_with(rt, &bus, &letterbox);
+    let mut second_pass = connect_with(rt, &bus, &mailbox);
     send_s1(rt, alloc, &bus, &mut one, "com.example.A", Sent::NoOwner);
     let name = name_a(rt);
     own(rt, &bus, &mut second_pass, &name, 0, None, 2);
     send_to_each_name(rt, alloc, &bus, &mut one);
-    expect_letters(rt, alloc, &letterbox, 2);
+    expect_letters(rt, alloc, &mailbox, 2);
     forget(one);
     forget(second_pass);
-    forget(letterbox);
+    forget(mailbox);
     forget(bus);
 }
 

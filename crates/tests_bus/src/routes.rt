@@ -7,7 +7,7 @@ use crate::outboxes::{
 use arrayvec::ArrayVec;
 use outbox::{Delivery, Outbox, Taker};
 use program_table::Handle;
-use routing::{Gate, Mailbox, Recipient, Sender, Sent};
+use routing::{Gate, Mailbox, OpenGate, Recipient, Sender, Sent};
 use std::alloc::{AllocError, Global};
 use std::cell::Cell;
 use std::marker::Model;
@@ -88,8 +88,9 @@ fn send_one<R: Wait>(rt: &R, alloc: Global, sender: &mut Sender<Line>) -> bool {
     if !sender.has(3) {
         return false;
     }
-    match sender.route(rt, alloc, &[3], &bytes) {
-        Ok(refused) => refused.len() == 0,
+    let mut refused = ArrayVec::new();
+    match sender.broadcast(rt, alloc, &[3], &bytes, &OpenGate, &mut refused) {
+        Ok(()) => refused.len() == 0,
         Err(_) => false,
     }
 }
@@ -139,8 +140,9 @@ fn refuse_one<R: Wait + Abort>(rt: &R, alloc: Global, sender: &mut Sender<Line>)
     let bytes = new_bytes(b"one more");
     assert!(rt; sender.has(3));
     assert!(rt; sender.has(5));
-    let refused = sender
-        .route(rt, alloc, &[3, 5], &bytes)
+    let mut refused = ArrayVec::new();
+    sender
+        .broadcast(rt, alloc, &[3, 5], &bytes, &OpenGate, &mut refused)
         .expect(rt, "a count");
     assert_eq!(rt; refused.as_slice(), [3].as_slice());
 }
@@ -270,7 +272,7 @@ fn route_at_gate<R: Wait + Abort>(rt: &R, alloc: Global, sender: &mut Sender<Lin
     assert!(rt; sender.has(3));
     let mut refused = ArrayVec::new();
     sender
-        .route_gated(rt, alloc, &[3], &bytes, calls, &mut refused)
+        .broadcast(rt, alloc, &[3], &bytes, calls, &mut refused)
         .expect(rt, "a count");
     assert!(rt; refused.is_empty());
 }
@@ -322,7 +324,7 @@ fn route_and_look<R: Wait + Abort>(
     assert!(rt; sender.has(5));
     let mut refused = ArrayVec::new();
     sender
-        .route_gated(rt, alloc, &[3, 5], &bytes, &looks, &mut refused)
+        .broadcast(rt, alloc, &[3, 5], &bytes, &looks, &mut refused)
         .expect(rt, "a count");
     assert!(rt; !looks.has_given.get());
 }

@@ -58,10 +58,10 @@ fn refuse<B: BusBrand, R: Wait + Abort>(rt: &R, publisher: &mut Publisher<B, Pla
 // Two that are accepted are.
 fn publish_two<B: BusBrand, R: Wait + Abort>(
     rt: &R,
-    letterbox: PlainMailbox,
+    mailbox: PlainMailbox,
     publisher: &mut Publisher<B, PlainMailbox, &R>,
 ) {
-    let _ = publish(rt, publisher, Command::Connect(letterbox));
+    let _ = publish(rt, publisher, Command::Connect(mailbox));
     let _ = publish(rt, publisher, Command::Request(1, name_a(rt), 0));
     assert_eq!(rt; publisher.commands(), 2);
     assert_eq!(rt; publisher.commands_of(1), 2);

@@ -30,9 +30,9 @@ fn take_over<B: BusBrand, R: Wait + Threads + Abort>(
     requires { opened ≡ B.book }
 {
     let bus = new_bus::<B, R>(rt, alloc, opened);
-    let letterbox = new_letterbox(rt, alloc);
+    let mailbox = new_letterbox(rt, alloc);
     let mut one = connect(rt, alloc, &bus);
-    let mut second_pass = connect_with(rt, &bus, &letterbox);
+    let mut second_pass = connect_with(rt, &bus, &mailbox);
     let mut three = connect(rt, alloc, &bus);
     add_rule(rt, alloc, &bus, &mut three, "sender='com.example.A'", 1);
     let name = name_a(rt);
@@ -44,13 +44,13 @@ fn take_over<B: BusBrand, R: Wait + Threads + Abort>(
     expect_each_way(rt, &mut second_pass, &[3]);
     look_up(rt, alloc, &mut one, &name);
     send_s1(rt, alloc, &bus, &mut one, "com.example.A", Sent::Put(2));
-    expect_s1(rt, alloc, &letterbox);
+    expect_s1(rt, alloc, &mailbox);
     close(rt, &bus, &mut second_pass);
     expect_each_way(rt, &mut one, &[3]);
     forget(one);
     forget(second_pass);
     forget(three);
-    forget(letterbox);
+    forget(mailbox);
     forget(bus);
 }
 
@@ -113,9 +113,9 @@ fn expect_names<B: BusBrand, R: Abort>(
     assert!(rt; names[0] == *name);
 }
 
-// The message in the letterbox is S1, and the only one.
-fn expect_s1<R: Wait + Abort>(rt: &R, alloc: Global, letterbox: &PlainMailbox) {
-    let items = take_all(rt, alloc, letterbox.outbox());
+// The message in the mailbox is S1, and the only one.
+fn expect_s1<R: Wait + Abort>(rt: &R, alloc: Global, mailbox: &PlainMailbox) {
+    let items = take_all(rt, alloc, mailbox.outbox());
     assert_eq!(rt; items.len(), 1);
     assert_eq!(rt; items[0].bytes().as_slice(), s1_bytes().as_slice());
     forget(items);

@@ -83,6 +83,7 @@ fn rest_of<'a>(call: &Call<'a>) -> (&'static str, &'a str, u32) {
         Call::GetAll => ("GetAll", "", 0),
         Call::GetAllOfNone => ("GetAll", "none", 0),
         Call::UpdateActivationEnvironment => ("UpdateActivationEnvironment", "", 0),
+        Call::ReloadConfig => ("ReloadConfig", "", 0),
         Call::GetStats => ("GetStats", "", 0),
         Call::GetConnectionStats(name) => ("GetConnectionStats", *name, 0),
         Call::GetAllMatchRules => ("GetAllMatchRules", "", 0),
@@ -98,7 +99,7 @@ fn rest_of<'a>(call: &Call<'a>) -> (&'static str, &'a str, u32) {
 }
 
 // Interface, member, signature and body of a call, and its text and its number.
-const CALLS: [(&str, &str, &[u8], &[u8], &str, u32); 26] = [
+const CALLS: [(&str, &str, &[u8], &[u8], &str, u32); 27] = [
     (BUS, "Hello", b"", b"", "", 0),
     (BUS, "AddMatch", b"s", TEXT, "x", 0),
     (BUS, "RemoveMatch", b"s", TEXT, "x", 0),
@@ -134,6 +135,7 @@ const CALLS: [(&str, &str, &[u8], &[u8], &str, u32); 26] = [
         "",
         0,
     ),
+    (BUS, "ReloadConfig", b"", b"", "", 0),
     (
         "org.freedesktop.DBus.Introspectable",
         "Introspect",

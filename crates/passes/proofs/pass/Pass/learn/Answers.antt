@@ -6,5 +6,5 @@ use Rattle.passes.proofs.pass.Pass.learn.Goals as goal
 
 pub invariant_of-self : goal.invariant_of-self
 invariant_of-self g c =
-    let v : PassState g.row.M.Denot = record { seen = c.self.inside.history_reader; connection = c.self.inside.connection; is_closed = c.self.inside.is_closed; took = c.self.inside.took; count = count_in c.self.inside.sender; recipient_seats = recipient_seats_in c.self.inside.sender } in
+    let v : PassState g.row.M.Denot = record { seen = c.self.inside.history_reader; connection = c.self.inside.connection; is_closed = c.self.inside.is_closed; is_shut_out = c.self.inside.is_shut_out; took = c.self.inside.took; count = count_in c.self.inside.sender; recipient_seats = recipient_seats_in c.self.inside.sender } in
     (still_taken v (record v { seen = c.learn.new.self }) c.self.invariant.0 c.learn.ensures.this refl refl, c.self.invariant.1)

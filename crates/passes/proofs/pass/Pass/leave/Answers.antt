@@ -8,7 +8,7 @@ use Rattle.passes.proofs.pass.Pass.leave.Goals as goal
 
 pub invariant_of-self : goal.invariant_of-self
 invariant_of-self g c =
-    let v : PassState g.row.M.Denot = record { seen = c.self.inside.history_reader; connection = c.self.inside.connection; is_closed = c.self.inside.is_closed; took = c.self.inside.took; count = count_in c.self.inside.sender; recipient_seats = recipient_seats_in c.self.inside.sender } in
+    let v : PassState g.row.M.Denot = record { seen = c.self.inside.history_reader; connection = c.self.inside.connection; is_closed = c.self.inside.is_closed; is_shut_out = c.self.inside.is_shut_out; took = c.self.inside.took; count = count_in c.self.inside.sender; recipient_seats = recipient_seats_in c.self.inside.sender } in
     let at : c.self.inside.history_reader ≡ c.args.self.now.seen = ap (λ (p : PassState g.row.M.Denot). p.seen) c.self.view_is in
     let begins : IsPrefix c.self.inside.history_reader c.leave.new.self = subst (λ (l : List (Command g.row.M.Denot)). IsPrefix c.self.inside.history_reader l) (sym c.leave.ensures) (subst (λ (l : List (Command g.row.M.Denot)). IsPrefix l c.args.guard) (sym at) c.requires) in
     (still_taken v (record v { seen = c.leave.new.self }) c.self.invariant.0 begins refl refl, c.self.invariant.1)
