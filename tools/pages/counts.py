@@ -25,7 +25,18 @@ CONSTANTS = [
     ("man/dbusfan-watch.1", rf"within {NUMBER} seconds", "crates/bus_client/src/timed.rt ANSWER_SECONDS", 1),
     ("docs/IMAGE.md", rf"{NUMBER} if there are more", "crates/summary/src/parts.rt MAX_ARGUMENTS", 1),
     ("man/dbusfan-filter.7", rf"{NUMBER} if there are more", "crates/summary/src/parts.rt MAX_ARGUMENTS", 1),
-    ("bench/README.md", rf"jump that crosses a multiple of {NUMBER} bytes", None, 32),
+]
+# The same of the default of a limit.
+LIMITS = [
+    ("docs/SECURITY.md", rf"all {NUMBER} rules of the bus", "all-rules", 1),
+    ("docs/SECURITY.md", rf"{NUMBER} MiB may wait for each", "bytes", 1 << 20),
+    ("docs/SECURITY.md", rf"each of the {NUMBER} clients", "clients", 1),
+    ("docs/SECURITY.md", rf"nearly {NUMBER} MiB unfinished", "unfinished", 1 << 20),
+    ("man/dbusfan-serve.1", rf"at most {NUMBER} clients", "clients", 1),
+    ("man/dbusfan-serve.1", rf"Hello within {NUMBER} seconds", "hello", 1),
+    ("man/dbusfan-serve.1", rf"at most {NUMBER} match rules and programs", "rules", 1),
+    ("man/dbusfan-serve.1", rf"{NUMBER} instructions of programs, and", "instructions", 1),
+    ("man/dbusfan-serve.1", rf"and {NUMBER} names; a call", "names", 1),
 ]
 
 
@@ -76,8 +87,9 @@ def check_number(report, page, words, number):
 
 def check_constants(report):
     for name, words, constant, unit in CONSTANTS:
-        if constant:
-            check_number(report, Page(name), words, code.constant(constant) // unit)
+        check_number(report, Page(name), words, code.constant(constant) // unit)
+    for name, words, limit, unit in LIMITS:
+        check_number(report, Page(name), words, code.limits()[limit].standard // unit)
 
 
 def check_cited(report, pages):
