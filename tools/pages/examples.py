@@ -4,6 +4,7 @@ import shlex
 import subprocess
 from typing import NamedTuple
 
+from . import code
 from .page import TOP
 
 COMMAND = re.compile(r"(?:(?:echo|printf) .*\| )?\./dbusfan (?:match|compile|asm|check|run) ")
@@ -49,15 +50,28 @@ def answers(said, expected):
     return said.split("\n")[0] == expected if expected.startswith("dbusfan: ") else said == expected
 
 
+def status_of(answer):
+    """The status that a program ends with after an answer."""
+    if answer.startswith("dbusfan: "):
+        return dict(code.statuses())[answer.split()[1]]
+    return 1 if answer.startswith(("no match", "verdict 0 ", "0 of ")) else 0
+
+
+def first_line(text):
+    return repr(text.partition("\n")[0])
+
+
 def check_example(report, program, example):
     command = example.command.replace("./dbusfan ", f"{shlex.quote(str(program))} ")
     try:
         ran = subprocess.run(["sh", "-c", command], cwd=TOP, capture_output=True, text=True, timeout=SECONDS, check=False)
         said = (ran.stderr if example.answer.startswith("dbusfan: ") else ran.stdout).rstrip("\n")
+        status = ran.returncode
     except subprocess.TimeoutExpired:
-        said = "no answer"
-    well = answers(said, example.answer)
-    report.check(well, example.place, f"{example.command.strip()}: {said.partition(chr(10))[0]!r}, and not {example.answer.partition(chr(10))[0]!r}")
+        said, status = "no answer", None
+    named, wanted = example.command.strip(), status_of(example.answer)
+    report.check(answers(said, example.answer), example.place, f"{named}: {first_line(said)}, and not {first_line(example.answer)}")
+    report.check(status == wanted, example.place, f"{named}: status {status}, and not {wanted}")
 
 
 def check(report, pages, program):

@@ -61,7 +61,7 @@ def check_limits(report, name):
     for names, body in items:
         these = [known[it] for it in names.split(" , ") if it in known]
         standards = [int(it) for it in re.findall(r"\((\d+)\)", body)]
-        report.check(standards == [it.standard for it in these], name, f"the standards of {names} are {[it.standard for it in these]}")
+        report.check(standards == [it.standard for it in these], name, f"the defaults of {names} are {[it.standard for it in these]}")
         mosts = [int(it) for it in re.findall(r"at most (\d+)", body)]
         own = [it.most for it in these if it.most != code.UNBOUNDED]
         report.check(mosts == own, name, f"the largest of {names} are {own}")

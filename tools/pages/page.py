@@ -21,10 +21,11 @@ class Report:
             self.wrong.append(f"{place}: {fault}")
 
     def check_same(self, place, what, stated, real):
-        """The page states just the names, or the pairs, that the code has."""
+        """The page states just the names, or the pairs, that the code has. A dictionary has the place of each that it states."""
+        places = stated if isinstance(stated, dict) else {}
         stated, real = set(stated), set(real)
         self.checks += len(real)
-        self.wrong += [f"{place}: no such {what}: {words(it)}" for it in sorted(stated - real, key=str)]
+        self.wrong += [f"{places.get(it, place)}: no such {what}: {words(it)}" for it in sorted(stated - real, key=str)]
         self.wrong += [f"{place}: {what} left out: {words(it)}" for it in sorted(real - stated, key=str)]
 
 

@@ -23,8 +23,8 @@ def check_commands(report, page):
     """Each command has a row; where a row names its options, it names all of them."""
     table, known = page.table("Command", "What it does"), code.commands()
     rows = [(line, code_of(cells[0])[0]) for line, cells in table.rows]
-    named = {text.split()[0] for _, text in rows}
-    report.check_same(page.at(table.line), "command", {it for it in named if it[0] != "-"}, {*known, "help"})
+    named = {text.split()[0]: page.at(line) for line, text in rows if text[0] != "-"}
+    report.check_same(page.at(table.line), "command", named, {*known, "help"})
     for name in known:
         mine = [(line, text) for line, text in rows if text.split()[0] == name]
         stated = {it for _, text in mine for it in OPTION.findall(text)}
@@ -36,7 +36,7 @@ def check_commands(report, page):
 
 def check_options(report, page, command, *header):
     table = page.table(*header)
-    stated = {it for _, cells in table.rows if cells[0][0] == "`" for it in OPTION.findall(cells[0])}
+    stated = {it: page.at(line) for line, cells in table.rows if cells[0][0] == "`" for it in OPTION.findall(cells[0])}
     report.check_same(page.at(table.line), f"option of {command}", stated, spelled(code.options(command)))
 
 
@@ -64,11 +64,11 @@ def says(text, number):
 def check_limits(report, page):
     """The name, the standard value, the largest value and the unit of each limit."""
     table, known = page.table("Name", "What it limits"), code.limits()
-    report.check_same(page.at(table.line), "limit", {code_of(cells[0])[0] for _, cells in table.rows}, known)
+    report.check_same(page.at(table.line), "limit", {code_of(cells[0])[0]: page.at(line) for line, cells in table.rows}, known)
     for line, (name, of, _, standard) in table.rows:
         limit = known.get(name.strip("`"))
         if limit:
-            report.check(standard.replace(",", "") == str(limit.standard), page.at(line), f"the standard of {limit.name} is {limit.standard:,}")
+            report.check(standard.replace(",", "") == str(limit.standard), page.at(line), f"the default of {limit.name} is {limit.standard:,}")
             most = [int(it.replace(",", "")) for it in re.findall(r"at most ([\d,]*\d)", of)] or [code.UNBOUNDED]
             report.check(most == [limit.most], page.at(line), f"{limit.name} is at most {limit.most:,}")
             report.check(all(it in of for it in limit.unit.split() if it != "and"), page.at(line), f"{limit.name} counts {limit.unit}")
@@ -78,10 +78,10 @@ def check_shares(report, page):
     """Each limit's standard value stands in a row with its name."""
     table, known = page.table("What", "Limit"), code.limits()
     named = {(line, name): cells[0] for line, cells in table.rows for name in code_of(cells[1])}
-    report.check_same(page.at(table.line), "limit", {name for _, name in named}, known)
+    report.check_same(page.at(table.line), "limit", {name: page.at(line) for line, name in named}, known)
     for (line, name), text in named.items():
         if name in known:
-            report.check(says(text, known[name].standard), page.at(line), f"the standard of {name} is {known[name].standard:,}")
+            report.check(says(text, known[name].standard), page.at(line), f"the default of {name} is {known[name].standard:,}")
 
 
 def check_limit_words(report, page):
@@ -96,21 +96,22 @@ def check_limit_words(report, page):
 def check_methods(report, page):
     """Each method under its interface, with the signatures of its arguments and its answer."""
     table = page.table("Interface", "Methods")
-    stated = {(code_of(cells[0])[0], *METHOD.fullmatch(it).groups("")) for _, cells in table.rows for it in code_of(cells[1])}
+    stated = {(code_of(cells[0])[0], *METHOD.fullmatch(it).groups("")): page.at(line)
+              for line, cells in table.rows for it in code_of(cells[1])}
     report.check_same(page.at(table.line), "method", stated, code.methods())
 
 
 def check_errors(report, page):
     """Each error of the bus; the sentence that it has of its own is quoted."""
     table, known = page.table("Error", "What the bus says"), code.errors()
-    stated = {code_of(cells[0])[0]: (code_of(cells[1]) or [""])[0] for _, cells in table.rows}
-    whole = {(it if "." in it else f"org.freedesktop.DBus.Error.{it}"): sentence for it, sentence in stated.items()}
-    report.check_same(page.at(table.line), "error", whole.items(), known.items())
+    rows = [(page.at(line), code_of(cells[0])[0], (code_of(cells[1]) or [""])[0]) for line, cells in table.rows]
+    stated = {(it if "." in it else f"org.freedesktop.DBus.Error.{it}", sentence): place for place, it, sentence in rows}
+    report.check_same(page.at(table.line), "error", stated, known.items())
 
 
 def check_facts(report, page):
     table = page.table("Fact", "GetStats")
-    stated = {it for _, cells in table.rows for it in code_of(cells[0])} - APART
+    stated = {it: page.at(line) for line, cells in table.rows for it in code_of(cells[0]) if it not in APART}
     real = re.findall(r'number_fact\("(\w+)"', code.source("crates/peers/src/stats.rt"))
     report.check_same(page.at(table.line), "fact of GetStats", stated, real)
 
@@ -127,9 +128,9 @@ def check_faults(report, page):
 
 def check_statuses(report, page):
     table, known = page.table("Answer", "Where it is written"), code.statuses()
-    stated = {(word.split()[0], int(cells[2])) for _, cells in table.rows if cells[2].isdigit()
-              for word in re.findall(r"`dbusfan: ([a-z]+(?: NAME)?)[`\" ]", cells[0])}
-    report.check_same(page.at(table.line), "fault with this status", {it for it in stated if it[0] in dict(known)}, known)
+    stated = {(word, int(cells[2])): page.at(line) for line, cells in table.rows if cells[2].isdigit()
+              for word in re.findall(r"`dbusfan: ([a-z]+)\b", cells[0]) if word in dict(known)}
+    report.check_same(page.at(table.line), "fault with this status", stated, known)
 
 
 def check_causes(report, page):
