@@ -2,7 +2,7 @@
 import re
 from typing import NamedTuple
 
-from .page import source
+from .page import TOP, source
 
 UNBOUNDED = 4294967295
 ARGUMENT = re.compile(r'name: "([^"]+)",\s+form: Form::(\w+)(?:\(Value::(\w+)(?:\("([^"]+)"\))?\))?')
@@ -90,6 +90,14 @@ def statuses():
               for name in re.findall(r"Fault::(\w+)", arm)}
         found |= {(word, by[name]) for name, word in re.findall(kind, text)}
     return found
+
+
+def sentences():
+    """What finds each text of several words that the programs' code has, with anything for a value in braces."""
+    crates = [it for it in TOP.glob("crates/*/src") if not it.parent.name.startswith(("tests_", "cases_", "bench_"))]
+    texts = {text for it in crates for file in it.rglob("*.rt") for text in re.findall(r'"((?:[^"\\\n]|\\.)*)"', file.read_text(encoding="utf-8"))}
+    pieces = [re.split(r"\{[^}]*\}", it.strip()) for it in texts]
+    return [re.compile(".+".join(map(re.escape, it))) for it in pieces if len(" ".join(it).split()) > 1]
 
 
 def constant(place):

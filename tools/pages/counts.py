@@ -92,24 +92,30 @@ def check_constants(report):
         check_number(report, Page(name), words, code.limits()[limit].standard // unit)
 
 
-def check_cited(report, pages):
-    """Each count of lines that is quoted beside a call of bench/cited_lines is what it prints, and its parts add up."""
-    quoted = [(page, it) for page in pages for it in re.finditer(rf"`bench/cited_lines --of ([^`]+)`:\s+{NUMBER} lines", page.text)]
-    if not quoted:
-        return
+def lines_cited():
+    """A function that says how many lines the contracts of some functions cite, as bench/cited_lines counts them."""
     cited, own = script("bench/cited_lines"), sys.argv
     sys.argv, cited.report_of = ["cited_lines", "--of"], lambda first, functions: first
-    first = cited.main()
+    with contextlib.redirect_stdout(io.StringIO()):
+        first = cited.main()
     sys.argv = own
-    for page, it in quoted:
-        functions = it.group(1).split()
+
+    def lines_of(functions):
         by = cited.closure({place: found for place, found in first.items() if place.rpartition(": ")[2] in functions})
-        lines, place = sum(definition.size for definition in by), page.at(page.line_of(it.start()))
+        return sum(definition.size for definition in by)
+
+    return lines_of
+
+
+def check_cited(report, pages):
+    """Each count of lines that is quoted beside a call of bench/cited_lines is what it prints; parts after it add up to it."""
+    quoted = [(page, it) for page in pages for it in re.finditer(rf"`bench/cited_lines --of ([^`]+)`:\s+{NUMBER} lines", page.text)]
+    lines_of = lines_cited() if quoted else None
+    for page, it in quoted:
+        lines, place = lines_of(it.group(1).split()), page.at(page.line_of(it.start()))
         report.check(value(it.group(2)) == lines, place, f"bench/cited_lines --of {it.group(1)}: {lines:,} lines")
-        parts = re.match(r"[^.]*?:(.*?)\.\n", page.text[it.end():], re.S)
-        if parts and page.text[it.end()] != ".":
-            numbers = [value(part) for part in re.findall(rf"\s{NUMBER}(?=,|$)", parts.group(1))]
-            report.check(sum(numbers) == lines, place, f"its parts are {sum(numbers):,} lines together")
+        parts = [value(part) for part in re.findall(rf"\b{NUMBER}\b", page.text[it.end():].partition("\n\n")[0])]
+        report.check(not parts or sum(parts) == lines, place, f"its parts have {sum(parts):,} lines together")
 
 
 def check_suites(report):
@@ -150,5 +156,4 @@ def check(report, pages):
     check_suites(report)
     check_trials(report)
     check_settings(report)
-    with contextlib.redirect_stdout(io.StringIO()):
-        check_cited(report, pages)
+    check_cited(report, pages)

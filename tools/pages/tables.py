@@ -10,6 +10,8 @@ METHOD = re.compile(r"(\w+)\((.*)\)(?: -> (.+))?")
 # The faults of each word, and those that no file of a command can have: a program's file is text, and never bytes.
 FAULTS = {"rule": ("match_key", {"NoMemory"}), "message": ("message_value", set()), "capture": ("captures", set()),
           "code": ("bpf_code", {"NoMemory", "Length", "Code"}), "program": ("bpf_verify", {"NoMemory", "Code"})}
+# What `clap` says of words by itself.
+BY_CLAP = ("unexpected argument", "the following required arguments", "unrecognized subcommand")
 # The facts of GetStats that stand apart from those in stats.rt.
 APART = {"UniqueName"}
 
@@ -133,6 +135,16 @@ def check_statuses(report, page):
     report.check_same(page.at(table.line), "fault with this status", stated, known)
 
 
+def check_sentences(report, page):
+    """Each example of a line for people is a sentence of the code."""
+    known = code.sentences()
+    for line, cells in page.table("After", "An example of the second line").rows:
+        for said in code_of(cells[1]):
+            if " " in said and not said.startswith(BY_CLAP):
+                found = any(it.search(said) for it in known)
+                report.check(found, page.at(line), f"the code has no such sentence: {said}")
+
+
 def check_causes(report, page):
     """Each cause of the end of a session is in the table of what a bus tells."""
     table = page.table("Line", "What happened")
@@ -155,8 +167,8 @@ def check_image(report, page):
 # Each page's tables: what compares them.
 PARTS = [
     (COMMANDS, check_commands), (COMMANDS, check_limits), (COMMANDS, check_methods), (COMMANDS, check_errors), (COMMANDS, check_facts),
-    (COMMANDS, check_faults), (COMMANDS, check_statuses), (COMMANDS, check_causes), (COMMANDS, check_serve), (WATCHING, check_watch),
-    (SECURITY, check_shares), (IMAGE, check_image),
+    (COMMANDS, check_faults), (COMMANDS, check_statuses), (COMMANDS, check_sentences), (COMMANDS, check_causes), (COMMANDS, check_serve),
+    (WATCHING, check_watch), (SECURITY, check_shares), (IMAGE, check_image),
 ]
 
 
