@@ -93,11 +93,21 @@ def statuses():
 
 
 def sentences():
-    """What finds each text of several words that the programs' code has, with anything for a value in braces."""
+    """What finds each text of the programs' code that has more words than values, and two at least; anything stands for a value."""
     crates = [it for it in TOP.glob("crates/*/src") if not it.parent.name.startswith(("tests_", "cases_", "bench_"))]
-    texts = {text for it in crates for file in it.rglob("*.rt") for text in re.findall(r'"((?:[^"\\\n]|\\.)*)"', file.read_text(encoding="utf-8"))}
-    pieces = [re.split(r"\{[^}]*\}", it.strip()) for it in texts]
-    return [re.compile(".+".join(map(re.escape, it))) for it in pieces if len(" ".join(it).split()) > 1]
+    files = "\n".join(file.read_text(encoding="utf-8") for it in crates for file in it.rglob("*.rt"))
+    texts = {before_pointer(it).strip() for it in re.findall(r'"((?:[^"\\\n]|\\.)*)"', files)}
+    pieces = [re.split(r"\{[^}]*\}", it) for it in texts]
+    return [re.compile(".+".join(map(re.escape, it))) for it in pieces if word_count(it) >= max(2, len(it))]
+
+
+def before_pointer(text):
+    """A line for people without what it says of help."""
+    return text.partition("; see dbusfan")[0]
+
+
+def word_count(pieces):
+    return sum(bool(re.search("[a-z]{2}", it)) for it in " ".join(pieces).split())
 
 
 def constant(place):

@@ -70,7 +70,7 @@ def check_limits(report, page):
     for line, (name, of, _, standard) in table.rows:
         limit = known.get(name.strip("`"))
         if limit:
-            report.check(standard.replace(",", "") == str(limit.standard), page.at(line), f"the default of {limit.name} is {limit.standard:,}")
+            report.check(numbers_in(standard) == {limit.standard}, page.at(line), f"the default of {limit.name} is {limit.standard:,}")
             most = [int(it.replace(",", "")) for it in re.findall(r"at most ([\d,]*\d)", of)] or [code.UNBOUNDED]
             report.check(most == [limit.most], page.at(line), f"{limit.name} is at most {limit.most:,}")
             report.check(all(it in of for it in limit.unit.split() if it != "and"), page.at(line), f"{limit.name} counts {limit.unit}")
@@ -141,7 +141,7 @@ def check_sentences(report, page):
     for line, cells in page.table("After", "An example of the second line").rows:
         for said in code_of(cells[1]):
             if " " in said and not said.startswith(BY_CLAP):
-                found = any(it.search(said) for it in known)
+                found = any(it.search(code.before_pointer(said)) for it in known)
                 report.check(found, page.at(line), f"the code has no such sentence: {said}")
 
 
