@@ -1,6 +1,6 @@
 -- The names of the errors that the bus answers, and what they say (D-Bus Specification, "Message Bus Messages"; the sentences
 -- are own).
-use Rattle.std.specs.Prelude.{ℕ, List, codes, ◌++◌, Option, Some, None}
+use Rattle.std.specs.Prelude.{ℕ, Bool, true, false, List, codes, ◌++◌, Option, Some, None, cond}
 use Rattle.match_key.specs.Errors as rules
 use Rattle.std.specs.Fmt.{decimal}
 use Rattle.bpf_verify.specs.Numbers.{verify_error_sentence, verify_error_place}
@@ -98,7 +98,11 @@ abbrev pub place_text : Option ℕ → List ℕ
 place_text None = codes ""
 place_text (Some place) = codes " at instruction " ++ decimal place
 
--- what an error says: its word, what was wrong, and where; NoReply what was wrong alone
+-- the error whose text is that of other buses, which programs show to people
+abbrev pub is_said_alone : ErrorName → Bool
+is_said_alone NoReply = true
+is_said_alone _ = false
+
+-- what an error says: its word, unless it is said without, what was wrong, and where
 abbrev pub text_of : ErrorName → List ℕ
-text_of NoReply = sentence_of NoReply
-text_of name = word_of name ++ codes ": " ++ sentence_of name ++ place_text (place_of name)
+text_of name = cond (is_said_alone name) (sentence_of name) (word_of name ++ codes ": " ++ sentence_of name ++ place_text (place_of name))

@@ -1,7 +1,7 @@
 // The errors that the bus answers.
 
 ghost use Rattle.std.specs.Prelude.{◌≡◌, ◌++◌};
-ghost use Rattle.bus_messages.specs.ErrorNames.{full_name, word_of, sentence_of, place_of, text_of};
+ghost use Rattle.bus_messages.specs.ErrorNames.{is_said_alone, full_name, word_of, sentence_of, place_of, text_of};
 
 use crate::exceeded::Exceeded;
 use bpf_verify::VerifyError;
@@ -172,6 +172,13 @@ impl ErrorName {
         }
     }
 
+    /// Whether its text is the sentence alone.
+    fn is_said_alone(self) -> bool
+        ensures { result ≡ is_said_alone self }
+    {
+        matches!(self, ErrorName::NoReply)
+    }
+
     /// The place of the instruction that is at fault, where there is one.
     fn place(self) -> Option<usize>
         ensures { result ≡ place_of self }
@@ -194,7 +201,7 @@ impl fmt::Display for ErrorName {
         let Terms { word, sentence } = self.terms();
         match self.place() {
             Some(place) => write!(f, "{word}: {sentence} at instruction {place}"),
-            None if self == ErrorName::NoReply => f.write_str(sentence),
+            None if self.is_said_alone() => f.write_str(sentence),
             None => write!(f, "{word}: {sentence}"),
         }
     }

@@ -92,11 +92,11 @@ impl<'a, B: BusBrand, R: Wait> Connected<'a, B, R> {
         event: &TextEvent<'_>,
     ) -> Result<Reply, Unanswered> {
         if connection == 0 || connection > self.last {
-            return Err(Unanswered::closed());
+            return Err(Unanswered::of_closed());
         }
         match &mut self.closed {
             Some(pass) => call(self.rt, self.alloc, &self.bus, pass, event),
-            None => Err(Unanswered::closed()),
+            None => Err(Unanswered::of_closed()),
         }
     }
 
@@ -155,7 +155,7 @@ impl<'a, B: BusBrand, R: Wait> Connected<'a, B, R> {
     ) -> Result<Recipients, Unanswered> {
         match self.passes.get_mut(&connection) {
             Some(pass) => recipients(pass, source, bytes),
-            None => Err(Unanswered::closed()),
+            None => Err(Unanswered::of_closed()),
         }
     }
 
@@ -174,7 +174,7 @@ impl<'a, B: BusBrand, R: Wait> Connected<'a, B, R> {
     fn recipients_by_closed(&mut self, bytes: &[u8]) -> Result<Recipients, Unanswered> {
         match &mut self.closed {
             Some(pass) => recipients(pass, Source::Bus, bytes),
-            None => Err(Unanswered::closed()),
+            None => Err(Unanswered::of_closed()),
         }
     }
 

@@ -19,11 +19,11 @@ pub(crate) enum Unanswered {
 
 impl Unanswered {
     /// Nobody is connected.
-    pub(crate) fn closed() -> Unanswered {
-        Unanswered::refused(Refusal::Closed)
+    pub(crate) fn of_closed() -> Unanswered {
+        Unanswered::of_refusal(Refusal::Closed)
     }
 
-    pub(crate) fn refused(refusal: Refusal) -> Unanswered {
+    pub(crate) fn of_refusal(refusal: Refusal) -> Unanswered {
         Unanswered::Answered(text_of_refusal(refusal))
     }
 
@@ -40,13 +40,13 @@ impl Unanswered {
 impl From<BusError> for Unanswered {
     fn from(error: BusError) -> Unanswered {
         match error {
-            BusError::ConnectionsFull => Unanswered::refused(Refusal::ConnectionsFull),
-            BusError::EntriesFull => Unanswered::refused(Refusal::EntriesFull),
-            BusError::NamesFull => Unanswered::refused(Refusal::NamesFull),
-            BusError::QueueFull => Unanswered::refused(Refusal::QueueFull),
-            BusError::RuleNotFound => Unanswered::refused(Refusal::RuleNotFound),
-            BusError::NoAttachment => Unanswered::refused(Refusal::NoAttachment),
-            BusError::Closed => Unanswered::closed(),
+            BusError::ConnectionsFull => Unanswered::of_refusal(Refusal::ConnectionsFull),
+            BusError::EntriesFull => Unanswered::of_refusal(Refusal::EntriesFull),
+            BusError::NamesFull => Unanswered::of_refusal(Refusal::NamesFull),
+            BusError::QueueFull => Unanswered::of_refusal(Refusal::QueueFull),
+            BusError::RuleNotFound => Unanswered::of_refusal(Refusal::RuleNotFound),
+            BusError::NoAttachment => Unanswered::of_refusal(Refusal::NoAttachment),
+            BusError::Closed => Unanswered::of_closed(),
             BusError::Rule(fault) => Unanswered::Answered(TextAnswer::Rule(fault)),
             BusError::TooLong => Unanswered::Answered(TextAnswer::TooLong),
             BusError::NoMemory | BusError::Program(VerifyError::NoMemory) => Unanswered::NoMemory,

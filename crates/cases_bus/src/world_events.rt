@@ -152,7 +152,7 @@ fn refused_as(
     otherwise: TextAnswer<'static>,
 ) -> Unanswered {
     match entry_refusal(alloc, world, connection) {
-        Ok(Some(refusal)) => Unanswered::refused(refusal),
+        Ok(Some(refusal)) => Unanswered::of_refusal(refusal),
         Ok(None) => Unanswered::Answered(otherwise),
         Err(unanswered) => unanswered,
     }

@@ -49,7 +49,7 @@ module _ {M : Type 0} where
 
   owner_keeps : (outbox_of : M → OutboxId) (member name : List ℕ) (owner : Option ℕ) (v w : PeerState M) (result : Result (Unit {0}) AnswerError) → TellsOwner outbox_of member name owner v result w → w.pass.connection ≡ v.pass.connection
   owner_keeps outbox_of member name None v w result (is, same) = ap (λ (p : PeerState M). p.pass.connection) same
-  owner_keeps outbox_of member name (Some n) v w result (made, told) = told_keeps outbox_of (told_asked v.serial member name n) (unique_name n) v.pass w.pass result told
+  owner_keeps outbox_of member name (Some n) v w result (made, unicast) = told_keeps outbox_of (told_asked v.serial member name n) (unique_name n) v.pass w.pass result unicast
 
   announced_keeps : (outbox_of : M → OutboxId) (change : Change) (v w : PeerState M) (result : Result (Unit {0}) AnswerError) → Announces outbox_of change v result w → w.pass.connection ≡ v.pass.connection
   announced_keeps outbox_of change v w result (mid, next, lost, changed, acquired, a, (made, signal), c, is) =
@@ -110,11 +110,11 @@ module _ {M : Type 0} where
 
   -- what a peer holds has no part in a change
   told_holding : (outbox_of : M → OutboxId) (held : HoldingsState) (asked : Asked) (to : List ℕ) (v w : PeerState M) (result : Result (Unit {0}) AnswerError) → HasTold outbox_of asked to v result w → HasTold outbox_of asked to (record v { holdings = held }) result (record w { holdings = held })
-  told_holding outbox_of held asked to v w result (made, told) = (ap (λ (s : PeerState M). record s { holdings = held }) made, told)
+  told_holding outbox_of held asked to v w result (made, unicast) = (ap (λ (s : PeerState M). record s { holdings = held }) made, unicast)
 
   owner_holding : (outbox_of : M → OutboxId) (held : HoldingsState) (member name : List ℕ) (owner : Option ℕ) (v w : PeerState M) (result : Result (Unit {0}) AnswerError) → TellsOwner outbox_of member name owner v result w → TellsOwner outbox_of member name owner (record v { holdings = held }) result (record w { holdings = held })
   owner_holding outbox_of held member name None v w result (is, same) = (is, ap (λ (s : PeerState M). record s { holdings = held }) same)
-  owner_holding outbox_of held member name (Some n) v w result told = told_holding outbox_of held (told_asked v.serial member name n) (unique_name n) v w result told
+  owner_holding outbox_of held member name (Some n) v w result tells = told_holding outbox_of held (told_asked v.serial member name n) (unique_name n) v w result tells
 
   announced_holding : (outbox_of : M → OutboxId) (held : HoldingsState) (change : Change) (v w : PeerState M) (result : Result (Unit {0}) AnswerError) → Announces outbox_of change v result w → Announces outbox_of change (record v { holdings = held }) result (record w { holdings = held })
   announced_holding outbox_of held change v w result (mid, next, lost, changed, acquired, a, (made, signal), c, is) =

@@ -93,9 +93,8 @@ impl<B: BusBrand, M: Mailbox> Peer<B, M> {
             Call::GetStats => self.get_stats(context, request),
             Call::GetConnectionStats(name) => self.get_connection_stats(context, request, name),
             Call::GetAllMatchRules => self.get_all_match_rules(context, request),
-            Call::UpdateActivationEnvironment | Call::ReloadConfig => {
-                self.answer(context, request, Body::Nothing)
-            }
+            Call::ReloadConfig => self.answer(context, request, Body::Nothing),
+            Call::UpdateActivationEnvironment => self.answer(context, request, Body::Nothing),
         }
     }
 

@@ -68,8 +68,8 @@ impl<B: BusBrand, M: Mailbox> Peer<B, M> {
     }
 
     /// Makes a call that may change who owns a name, under the lock of the bus. A change is announced before it is in force, and
-    /// given out once it is: so whoever finds the new owner, or hears from it, has the announcement in front of that. A change for
-    /// whose command memory is refused, which ends the bus, is never given out.
+    /// given out once it is: so whoever finds the new owner, or hears from it, has the announcement in front of that. If
+    /// memory is refused to the command, the bus has ended, and the announcement is never given out.
     ///
     /// # Errors
     ///

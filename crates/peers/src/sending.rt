@@ -123,8 +123,8 @@ impl<B: BusBrand, M: Mailbox> Peer<B, M> {
         self.conclude(context, view, sent)
     }
 
-    // Looks once more for the owner of a name, and says that there is none, under the lock of the bus: so nobody is told that
-    // before the name's last owner has gone for all, nor after a next one was announced.
+    // Looks once more for the owner of a name, under the lock of the bus, and says that there is none: so nobody is told that before
+    // it is announced to all that the last owner has lost the name, nor after it is announced who has it next.
     fn deliver_at_last<W: Wait, R: Wait + Drop>(
         &mut self,
         context: &Context<'_, B, M, W, R>,

@@ -22,6 +22,7 @@ mod shared;
 mod socket_probe;
 mod unfinished;
 mod worker;
+mod worker_setup;
 
 pub use endpoint::Endpoint;
 pub use input::can_watch_input;

@@ -3,26 +3,22 @@
 use crate::accepting::first_served;
 use crate::acceptor::Acceptor;
 use crate::connection::{Connection, Turn, close};
-use crate::endpoint::Endpoint;
-use crate::input::{INPUT, watch_input};
+use crate::input::INPUT;
 use crate::limit::Limit;
 use crate::note::{Cause, Note};
 use crate::scratch::Scratch;
 use crate::shared::Server;
+use crate::worker_setup::WorkerSetup;
 use members::{Arrival, BELL, SocketMailbox, WorkerHandle};
 use mio::{Events, Poll, Token};
 use sessions::{BusBrand, StateReader};
 use slab::Slab;
-use std::alloc::{AllocError, Global};
+use std::alloc::Global;
 use std::fs::{File, Files};
-use std::net::Net;
 use std::random::RandomSource;
 use std::sync::{Arc, Wait};
 use std::time::{Clock, Duration, Instant};
 use std::{io, mem, thread};
-
-/// How many events one look at the poll gives.
-const EVENTS: usize = 256;
 
 /// How many milliseconds lie between two looks at the connections that may become overdue.
 const OVERDUE_CHECK: u64 = 500;
@@ -32,53 +28,6 @@ const HELD_PAUSE: u64 = 1;
 
 /// How many milliseconds to wait where the poll fails.
 const PAUSE: u64 = 50;
-
-/// What a worker works with, made before its thread is started.
-#[derive(Drop)]
-pub(crate) struct WorkerSetup {
-    poll: Poll,
-    events: Events,
-    handle: Arc<WorkerHandle>,
-    scratch: Scratch,
-}
-
-impl WorkerSetup {
-    pub(crate) fn new<R: Net>(
-        rt: &R,
-        alloc: Global,
-        until_closed: bool,
-    ) -> io::Result<WorkerSetup> {
-        let poll = Poll::new(rt)?;
-        if until_closed {
-            watch_input(&poll)?;
-        }
-        let events = Events::with_capacity(alloc, EVENTS)?;
-        let handle = Arc::new(alloc, WorkerHandle::new(alloc, &poll)?)?;
-        let scratch = Scratch::new(rt, alloc)?;
-        Ok(WorkerSetup {
-            poll,
-            events,
-            handle,
-            scratch,
-        })
-    }
-
-    /// What accepts at these endpoints, for the worker at this setup, until as many connections have come as are asked for.
-    pub(crate) fn acceptor<'a, R: Files<File = File>>(
-        &self,
-        rt: &R,
-        alloc: Global,
-        endpoints: &'a [Endpoint],
-        count: Option<u64>,
-    ) -> io::Result<Acceptor<'a>> {
-        Acceptor::new(rt, alloc, &self.poll, endpoints, count)
-    }
-
-    /// The worker as others see it.
-    pub(crate) fn handle(&self) -> Result<Arc<WorkerHandle>, AllocError> {
-        Arc::try_clone(&self.handle)
-    }
-}
 
 /// A worker, with its share of the connections.
 #[derive(Drop)]
