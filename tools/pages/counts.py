@@ -53,7 +53,7 @@ def script(path):
 
 
 def below():
-    """What each crate of crates.txt names, those of the kit too."""
+    """What each crate of crates.txt names, those of the toolchain too."""
     rows = [it.split(":") for it in source("crates.txt").splitlines() if it and it[0] not in "#"]
     return {name.split()[0]: names.split() for name, names in rows}
 
@@ -64,14 +64,14 @@ def crates_for(name, graph):
 
 
 def check_readme(report):
-    """How long it is, how many crates the first program needs, and which crates of the kit are trusted."""
+    """How long it is, how many crates the first program needs, and which crates of the toolchain are trusted."""
     page, graph = Page("README.md"), below()
     report.check(len(page.lines) - 1 <= README_LINES, "README.md", f"more than {README_LINES} lines")
     check_number(report, page, rf"{NUMBER} crates that it needs", len(crates_for("dbusfan", graph)))
-    trusted = set(re.findall(r"`([a-z_0-9]+)`", page.text.partition("the kit's crates that are used")[2].partition("one call")[0]))
+    trusted = set(re.findall(r"`([a-z_0-9]+)`", page.text.partition("the toolchain's crates that are used")[2].partition("one call")[0]))
     programs = set().union(*(crates_for(it, graph) for it in ("dbusfan", "dbusfan_serve", "dbusfan_watch")))
     used = {it for name in programs for it in graph[name]} - set(graph)
-    report.check(used <= trusted, "README.md", f"crates of the kit left out: {sorted(used - trusted)}")
+    report.check(used <= trusted, "README.md", f"crates of the toolchain left out: {sorted(used - trusted)}")
     if shutil.which("rt"):
         version = subprocess.run(["rt", "version"], capture_output=True, text=True, check=False).stdout.strip()
         report.check(f"`{version}`" in page.text, "README.md", f"rt version is {version}")
