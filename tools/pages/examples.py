@@ -1,4 +1,5 @@
 """Examples of commands whose answer stands beside them, and that need no bus: they are run, and compared."""
+import itertools
 import re
 import shlex
 import subprocess
@@ -41,13 +42,20 @@ def answer_after(block, others):
     return "\n".join(others[0].lines) if is_next else None
 
 
-def answers(said, expected):
-    """Whether a command said what was expected: all of it, or its first line and as many more."""
-    more = re.fullmatch(r"(.*) and (\w+) lines more", expected)
-    if more:
-        lines = said.split("\n")
-        return lines[0] == more.group(1) and len(lines) == NUMBERS.index(more.group(2)) + 1
-    return said.split("\n")[0] == expected if expected.startswith("dbusfan: ") else said == expected
+def as_stated(said, expected):
+    """What a command said, as pages state it: whole, by its first line, or by that and how many more there are."""
+    first, *others = said.split("\n")
+    if expected.startswith("dbusfan: "):
+        return first
+    if expected.endswith(" lines more"):
+        return f"{first} and {NUMBERS[len(others)] if len(others) < len(NUMBERS) else len(others)} lines more"
+    return said
+
+
+def first_difference(said, expected):
+    """The first lines of two texts that differ."""
+    pairs = itertools.zip_longest(said.split("\n"), expected.split("\n"))
+    return "{!r}, and not {!r}".format(*next((it for it in pairs if it[0] != it[1]), (said, expected)))
 
 
 def status_of(answer):
@@ -55,10 +63,6 @@ def status_of(answer):
     if answer.startswith("dbusfan: "):
         return dict(code.statuses())[answer.split()[1]]
     return 1 if answer.startswith(("no match", "verdict 0 ", "0 of ")) else 0
-
-
-def first_line(text):
-    return repr(text.partition("\n")[0])
 
 
 def check_example(report, program, example):
@@ -69,8 +73,8 @@ def check_example(report, program, example):
         status = ran.returncode
     except subprocess.TimeoutExpired:
         said, status = "no answer", None
-    named, wanted = example.command.strip(), status_of(example.answer)
-    report.check(answers(said, example.answer), example.place, f"{named}: {first_line(said)}, and not {first_line(example.answer)}")
+    named, wanted, said = example.command.strip(), status_of(example.answer), as_stated(said, example.answer)
+    report.check(said == example.answer, example.place, f"{named}: {first_difference(said, example.answer)}")
     report.check(status == wanted, example.place, f"{named}: status {status}, and not {wanted}")
 
 
