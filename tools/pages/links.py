@@ -64,7 +64,16 @@ def check_listings(report, page):
             report.check(instructions(block.lines) == instructions(real), page.at(block.line), f"{linked[-1]} has other instructions")
 
 
+def check_front(report, pages):
+    """The README leads to each page of docs/."""
+    linked = {target for _, line in Page("README.md").prose() for target in LINK.findall(line)}
+    for page in pages:
+        if page.name.startswith("docs/"):
+            report.check(page.name in linked, "README.md", f"no link to {page.name}")
+
+
 def check(report, pages):
+    check_front(report, pages)
     known = {}
     for page in pages:
         check_listings(report, page)
