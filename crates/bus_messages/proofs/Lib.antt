@@ -3,3 +3,4 @@ pub mod TextArguments
 pub mod NumberArguments
 pub mod Introspecting
 pub mod TextElements
+pub mod PropertyCalls

@@ -213,6 +213,7 @@ fn row_called(interface: Option<&str>, member: Option<&str>) -> Option<&'static 
 
 impl<'a> Call<'a> {
     /// The call of a method with these arguments.
+    #[tactic(auto, using(crate::proofs::PropertyCalls::properties_read))]
     fn of(
         alloc: Global,
         method: Method,

@@ -2,7 +2,7 @@ use Rattle.std.proofs.Common.{ℕ, List, ap, sym, subst, ◌∙◌}
 use Rattle.message_view.specs.Valid.{Valid}
 use Rattle.passes.specs.Passes.{sender_of}
 use Rattle.passes.proofs.Sending.{answered}
-use Rattle.passes.proofs.pass.Pass.broadcast_gated.Goals as goal
+use Rattle.passes.proofs.pass.Pass.broadcast.Goals as goal
 
 pub returns-clause-routed : goal.returns-clause-routed
 returns-clause-routed g c =
