@@ -1,0 +1,1 @@
+"""What .ci/pages checks, a module for each kind of statement."""
