@@ -101,7 +101,7 @@ def lines_cited():
     sys.argv = own
 
     def lines_of(functions):
-        by = cited.closure({place: found for place, found in first.items() if place.rpartition(": ")[2] in functions})
+        by = cited.closure({place: found for place, found in first.items() if any(cited.is_clause_of(place, it) for it in functions)})
         return sum(definition.size for definition in by)
 
     return lines_of
