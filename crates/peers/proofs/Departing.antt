@@ -29,20 +29,20 @@ module _ {M : Type 0} where
   seen_more v w now (begins, same) = let P : PassState M → Type 0 = λ p. HasSeenMore v p in subst P (sym same) (begins, refl)
 
   -- the pass was found to have no claim
-  pub last_given : (outbox_of : M → OutboxId) (v w : PeerState M) (now : Publication M) → ClaimsNothing v.pass now w.pass → w ≡ with_pass v w.pass → GivesUpName outbox_of v Last w
-  last_given outbox_of v w now (seen, none) is =
-      let P : PassState M → Type 0 = λ p. HasNoClaim p.connection p.seen in (w.pass, seen_more v.pass w.pass now seen, inr (refl, is, subst P (sym seen.1) none))
+  pub last_given : (outbox_of : M → OutboxId) (u v : PeerState M) (pass : PassState M) (now : Publication M) → u ≡ v → ClaimsNothing u.pass now pass → GivesUpName outbox_of v Last (with_pass u pass)
+  last_given outbox_of u v pass now is (seen, none) =
+      let P : PeerState M → Type 0 = λ s. GivesUpName outbox_of s Last (with_pass u pass) in
+      let Q : PassState M → Type 0 = λ p. HasNoClaim p.connection p.seen in subst P is (pass, seen_more u.pass pass now seen, inr (refl, refl, subst Q (sym seen.1) none))
 
   looked : (v w : PassState M) (now : Publication M) → ClaimsOrIsGone v now w → HasSeenMore v w
   looked v w now (inl (seen, claims)) = seen_more v w now seen
   looked v w now (inr (fewer, same)) = let P : PassState M → Type 0 = λ p. HasSeenMore v p in subst P (sym same) (([], append-nil v.seen), refl)
 
   -- it was found to have one, or not to be there, and the call was made
-  pub name_given : (outbox_of : M → OutboxId) (v u w : PeerState M) (now before next : Publication M) (asked : Result Reply BusError) (announced : Result (Unit {0}) AnswerError) (giving : Giving) → ClaimsOrIsGone v.pass now u.pass → u ≡ with_pass v u.pass
-      → ChangesOwner outbox_of DropOne u before asked announced w next → giving ≡ giving_of asked → GivesUpName outbox_of v giving w
-  name_given outbox_of v u w now before next asked announced giving claims is changes gives =
-      let P : PeerState M → Type 0 = λ s. ChangesOwner outbox_of DropOne s before asked announced w next in
-      (u.pass, looked v.pass u.pass now claims, inl (asked, announced, (before, next, subst P is changes), gives))
+  pub name_given : (outbox_of : M → OutboxId) (u v : PeerState M) (pass : PassState M) (w : PeerState M) (now before next : Publication M) (asked : Result Reply BusError) (announced : Result (Unit {0}) AnswerError) (giving : Giving) → u ≡ v
+      → ClaimsOrIsGone u.pass now pass → ChangesOwner outbox_of DropOne (with_pass u pass) before asked announced w next → giving ≡ giving_of asked → GivesUpName outbox_of v giving w
+  name_given outbox_of u v pass w now before next asked announced giving is claims changes gives =
+      let P : PeerState M → Type 0 = λ s. GivesUpName outbox_of s giving w in subst P is (pass, looked u.pass pass now claims, inl (asked, announced, (before, next, changes), gives))
 
   pub closed : (outbox_of : M → OutboxId) (u v w : PeerState M) (asked : Result Reply BusError) (pass : PassState M) (leaving : Leaving) → u ≡ v → Once (λ before next. Answers true u.pass before (Close u.pass.connection) asked pass next) → IsClosing outbox_of asked (with_pass u pass) leaving w
       → ClosesPass outbox_of v leaving w

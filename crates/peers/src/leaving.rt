@@ -73,7 +73,6 @@ impl<B: BusBrand, M: Mailbox> Peer<B, M> {
         false
     }
 
-    #[tactic(auto, using(crate::proofs::Departing::last_given, crate::proofs::Departing::name_given))]
     fn give_up_name<W: Wait, R: Wait + Drop>(
         &mut self,
         context: &Context<'_, B, M, W, R>,
