@@ -1,7 +1,7 @@
 # Completion of dbusfan's words in bash.
 _dbusfan_options() {
     case $1 in
-    match) echo --owns --each --help ;;
+    match) echo --owns --each --why --help ;;
     run) echo --edition --each --help ;;
     asm | check | compile) echo --help ;;
     serve) echo --listen --guid --connections --until-closed --limit --print-address --session --nofork --allow-anonymous --allow-external --log --quiet --help ;;

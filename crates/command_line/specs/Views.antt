@@ -14,11 +14,11 @@ names_of (One first) = first.now ∷ []
 names_of (Two first second) = first.now ∷ second.now ∷ []
 
 abbrev pub gathering_of : Gathered → Gathering
-gathering_of all = record { names = names_of all.names; owns = all.owns; each = all.each; edition = all.edition; awaited = all.awaited }
+gathering_of all = record { names = names_of all.names; owns = all.owns; each = all.each; why = all.why; edition = all.edition; awaited = all.awaited }
 
 -- a row of the code as what it asks for
 abbrev pub asked_by : CommandRow → Asked
-asked_by (Match rule file owns each) = to_match rule.now file.now owns each
+asked_by (Match rule file owns each why) = to_match rule.now file.now owns each why
 asked_by (Asm file) = to_asm file.now
 asked_by (Check file) = to_check file.now
 asked_by (Compile rule) = to_compile rule.now

@@ -6,13 +6,14 @@ use summary::Edition;
 /// What a command line asks for.
 #[derive(Clone, Copy)]
 pub enum CommandRow<'a> {
-    /// `match RULE FILE [--owns] [--each]`: does the rule match the message in the file, or which messages of the
-    /// capture in it?
+    /// `match RULE FILE [--owns] [--each] [--why]`: does the rule match the message in the file, or which messages of
+    /// the capture in it? And why not?
     Match {
         rule: &'a str,
         file: &'a str,
         owns: bool,
         each: bool,
+        why: bool,
     },
     /// `asm FILE`: the byte form of the program in the file.
     Asm {

@@ -31,6 +31,7 @@ pub(crate) struct Gathered<'a> {
     names: Names<'a>,
     owns: bool,
     each: bool,
+    why: bool,
     edition: Option<Edition>,
     awaited: Awaited,
 }
@@ -39,7 +40,7 @@ impl<'a> Gathered<'a> {
     ghost use Rattle.std.specs.Prelude.{◌≡◌, map};
     ghost use Rattle.std.specs.Option.{option_map};
     ghost use Rattle.command_line.specs.Views.{asked_by, names_of, gathering_of};
-    ghost use Rattle.command_line.specs.RowReading.{no_words, with_name, with_owns, with_each, with_edition, with_edition_word, with_any, with_word, gather, match_of, only_word, run_of};
+    ghost use Rattle.command_line.specs.RowReading.{no_words, with_name, with_owns, with_each, with_why, with_edition, with_edition_word, with_any, with_word, gather, match_of, only_word, run_of};
 
     fn nothing() -> Gathered<'a>
         ensures { gathering_of result ≡ no_words }
@@ -48,6 +49,7 @@ impl<'a> Gathered<'a> {
             names: Names::Nothing,
             owns: false,
             each: false,
+            why: false,
             edition: None,
             awaited: Awaited::AnyWord,
         }
@@ -87,6 +89,7 @@ impl<'a> Gathered<'a> {
             }),
             "--owns" => self.with_owns(),
             "--each" => self.with_each(),
+            "--why" => self.with_why(),
             "--edition" => self.with_edition(),
             _ if is_option(word) => None,
             _ => self.with_name(word),
@@ -109,6 +112,15 @@ impl<'a> Gathered<'a> {
             return None;
         }
         Some(Gathered { each: true, ..self })
+    }
+
+    fn with_why(self) -> Option<Gathered<'a>>
+        ensures { option_map gathering_of result ≡ with_why (gathering_of self.entry) }
+    {
+        if self.why {
+            return None;
+        }
+        Some(Gathered { why: true, ..self })
     }
 
     fn with_edition(self) -> Option<Gathered<'a>>
@@ -147,7 +159,7 @@ impl<'a> Gathered<'a> {
 
     /// What `match` and these words ask for.
     pub(crate) fn to_match(self) -> Option<CommandRow<'a>>
-        ensures { option_map asked_by result ≡ match_of (names_of self.entry.names) self.entry.owns self.entry.each self.entry.edition }
+        ensures { option_map asked_by result ≡ match_of (names_of self.entry.names) self.entry.owns self.entry.each self.entry.why self.entry.edition }
     {
         match (self.names, self.edition) {
             (Names::Two(rule, file), None) => Some(CommandRow::Match {
@@ -155,6 +167,7 @@ impl<'a> Gathered<'a> {
                 file,
                 owns: self.owns,
                 each: self.each,
+                why: self.why,
             }),
             _ => None,
         }
@@ -162,21 +175,21 @@ impl<'a> Gathered<'a> {
 
     /// The one word that stands there, if there is no other and no option.
     pub(crate) fn only_word(self) -> Option<&'a str>
-        ensures { option_map (λ word. word.now) result ≡ only_word (names_of self.entry.names) self.entry.owns self.entry.each self.entry.edition }
+        ensures { option_map (λ word. word.now) result ≡ only_word (names_of self.entry.names) self.entry.owns self.entry.each self.entry.why self.entry.edition }
     {
         match (self.names, self.edition) {
-            (Names::One(word), None) if !self.owns && !self.each => Some(word),
+            (Names::One(word), None) if !self.owns && !self.each && !self.why => Some(word),
             _ => None,
         }
     }
 
     /// What `run` and these words ask for.
     pub(crate) fn to_run(self) -> Option<CommandRow<'a>>
-        ensures { option_map asked_by result ≡ run_of (names_of self.entry.names) self.entry.owns self.entry.each self.entry.edition }
+        ensures { option_map asked_by result ≡ run_of (names_of self.entry.names) self.entry.owns self.entry.each self.entry.why self.entry.edition }
     {
         let each = self.each;
         match self.names {
-            Names::Two(program, file) if !self.owns => {
+            Names::Two(program, file) if !self.owns && !self.why => {
                 if program == "-" && file == "-" {
                     return None;
                 }

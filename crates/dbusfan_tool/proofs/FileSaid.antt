@@ -4,7 +4,7 @@ use Rattle.std.specs.Prelude.{◌||◌, ◌&&◌, is_some}
 use Rattle.std.specs.Result.{IsErrAnd}
 use Rattle.std.specs.Global.{Vec}
 use Rattle.std.proofs.lemmas.Bool.{le-ltb}
-use Rattle.bpf_machine.specs.declared.machine.Outcome.{Outcome}
+use Rattle.dbusfan_tool.specs.declared.judgement.Judgement.{Judgement}
 use Rattle.captures.specs.declared.order.Order.TheVariants.{Big}
 use Rattle.captures.specs.declared.magic.Magic.{Magic}
 use Rattle.captures.specs.declared.magic.Magic.TheVariants as magics
@@ -84,7 +84,7 @@ module _ (gave : Content → Type 0) (judge : Judge) where
   abbrev Fails : Fault → Type 0
   Fails fault = Finds gave judge false (Err fault) ⊎ (fault ≡ Memory)
 
-  pub hands_on : (found : Result Outcome Fault) (fault : Fault) → IsErrAnd found (λ f. f ≡ fault) → Fails fault → FindsMessage gave judge found
+  pub hands_on : (found : Result Judgement Fault) (fault : Fault) → IsErrAnd found (λ f. f ≡ fault) → Fails fault → FindsMessage gave judge found
   hands_on (Ok outcome) fault is none = absurd is
   hands_on (Err f) fault is none = subst Fails (sym is) none
 
@@ -104,7 +104,7 @@ module _ (gave : Content → Type 0) (judge : Judge) where
   not_read each fault (inr memory) = inr (refl, ap failing memory)
 
   -- its one message was judged
-  pub said_of_message : (each : Bool) (outcome : Outcome) (words : Wording) (answer : Answer) → each ≡ false → words ≡ words_of judge → Finds gave judge false (Ok (of_message outcome)) → ((said_by answer ≡ said_of_outcome words outcome) ⊎ (said_by answer ≡ failing Memory)) → SaysAfter (SaysOfFile gave judge each) [] answer
+  pub said_of_message : (each : Bool) (outcome : Judgement) (words : Wording) (answer : Answer) → each ≡ false → words ≡ words_of judge → Finds gave judge false (Ok (of_message outcome)) → ((said_by answer ≡ said_of_outcome words outcome) ⊎ (said_by answer ≡ failing Memory)) → SaysAfter (SaysOfFile gave judge each) [] answer
   said_of_message each outcome words answer one words_are finds (inl said) =
       let found : Finds gave judge each (Ok (of_message outcome)) = subst (λ (e : Bool). Finds gave judge e (Ok (of_message outcome))) (sym one) finds in
       inl (inl (Ok (of_message outcome), found, no_lines answer ∙ said ∙ ap (λ (w : Wording). said_of_outcome w outcome) words_are))

@@ -1,36 +1,44 @@
 -- What a filter says of a message, from what its steps answer.
-use Rattle.std.proofs.Common.{◌≡◌, ℕ, List, Result, Ok, Err, refl, sym, ap, subst, ◌∙◌}
-use Rattle.std.specs.Result.{IsErrAnd}
+use Rattle.std.proofs.Common.{◌≡◌, ℕ, Bool, List, Option, Some, None, refl, ap, subst, ◌∙◌}
+use Rattle.std.specs.Prelude.{string_bytes}
 use Rattle.bpf_code.specs.declared.instruction.Ins.{Ins}
 use Rattle.bpf_code.specs.Steps.{Ends}
-use Rattle.bpf_machine.specs.declared.machine.Outcome.{Outcome}
-use Rattle.message_value.specs.declared.error.MsgError.{MsgError}
+use Rattle.dbusfan_tool.specs.declared.judgement.Judgement.{Judgement}
 use Rattle.message_view.specs.Message.{Message}
 use Rattle.message_view.specs.Valid.{Valid}
-use Rattle.message_view.specs.Reading.{message_at}
-use Rattle.match_rule.specs.RuleTree.{sender_name_of}
+use Rattle.match_rule.specs.RuleTree.{RuleTree, sender_name_of}
 use Rattle.summary.specs.declared.edition.Edition.{Edition}
 use Rattle.summary.specs.declared.edition.Edition.TheVariants.{Two}
 use Rattle.summary.specs.ImageBytes.{image_bytes}
+use Rattle.dbusfan_tool.specs.declared.why.Why.{Why}
 use Rattle.dbusfan_tool.specs.declared.filter.Filter.{Filter}
-use Rattle.dbusfan_tool.specs.Judges.{Judge, by_rule, by_program, no_slots, IsOutcome, IsJudgement}
-use Rattle.dbusfan_tool.specs.Filters.{Serves}
+use Rattle.dbusfan_tool.specs.Judges.{Judge, by_rule, by_program, no_slots, AreTold, AreToldIf, IsOutcome}
+use Rattle.dbusfan_tool.specs.Filters.{Explains, TellsOf, Serves}
 use Rattle.dbusfan_tool.specs.Reports.{words_of}
 use Rattle.dbusfan_tool.proofs.Compiled.{agree}
 use Rattle.dbusfan_tool.proofs.NoSlots.{none_is_zeros}
 
--- bytes that are no message
-pub of_no_message : (judge : Judge) (bytes : List ℕ) (found : Result Outcome MsgError) (error : MsgError) → IsErrAnd found (λ f. f ≡ error) → message_at bytes ≡ Err error → IsJudgement judge bytes found
-of_no_message judge bytes (Ok outcome) error is fault = absurd is
-of_no_message judge bytes (Err f) error is fault = fault ∙ ap Err (sym is)
+-- reasons are told as they are wanted
+told : (front : Option (List ℕ)) (tree : RuleTree) (owns : Bool) (why : Option Why) (m : Message) (text : List ℕ) → Explains front tree owns why → TellsOf why m text → AreToldIf front tree m owns text
+told None tree owns None m text explains tells = tells
+told None tree owns (Some why) m text explains tells = absurd explains
+told (Some front) tree owns None m text explains tells = absurd explains
+told (Some front) tree owns (Some why) m text explains tells =
+    let of_tree : AreTold why.front.now tree m why.owns text = subst (λ (t : RuleTree). AreTold why.front.now t m why.owns text) explains.0 tells in
+    let of_sender : AreTold why.front.now tree m owns text = subst (λ (b : Bool). AreTold why.front.now tree m b text) explains.1 of_tree in
+    subst (λ (f : List ℕ). AreTold f tree m owns text) explains.2 of_sender
 
 -- the run of the filter's program
-pub of_outcome : (judge : Judge) (filter : Filter) (bytes : List ℕ) (m : Message) (image : List ℕ) (outcome : Outcome) → Serves judge filter → Valid bytes m → image ≡ image_bytes filter.edition m filter.slots → Ends filter.program image outcome.verdict outcome.steps → IsOutcome judge bytes outcome
-of_outcome (by_rule tree owns) filter bytes m image outcome serves valid is ends =
+pub of_outcome : (judge : Judge) (filter : Filter) (bytes : List ℕ) (m : Message) (image : List ℕ) (outcome : Judgement) → Serves judge filter → Valid bytes m → image ≡ image_bytes filter.edition m filter.slots → Ends filter.program image outcome.verdict outcome.steps → TellsOf filter.why m (string_bytes outcome.reasons) → IsOutcome judge bytes outcome
+of_outcome (by_rule tree owns front) filter bytes m image outcome serves valid is ends tells =
     let in_second : image_bytes filter.edition m filter.slots ≡ image_bytes Two m filter.slots = ap (λ (e : Edition). image_bytes e m filter.slots) serves.3 in
-    let ends : Ends filter.program (image_bytes Two m filter.slots) outcome.verdict outcome.steps = subst (λ (b : List ℕ). Ends filter.program b outcome.verdict outcome.steps) (is ∙ in_second) ends in
-    (m, valid, serves.0 bytes m filter.slots (λ name. owns) outcome.verdict outcome.steps valid serves.1 (agree tree (sender_name_of tree) owns filter.slots refl serves.2) ends)
-of_outcome (by_program code edition) filter bytes m image outcome serves valid is ends =
+    let ends : Ends filter.program (image_bytes Two m filter.slots) outcome.verdict outcome.steps = subst (λ (b : List ℕ). Ends filter.program b outcome.verdict outcome.steps) (is ∙ in_second) ends in (
+      m,
+      valid,
+      serves.0 bytes m filter.slots (λ name. owns) outcome.verdict outcome.steps valid serves.1 (agree tree (sender_name_of tree) owns filter.slots refl serves.2) ends,
+      told front tree owns filter.why m (string_bytes outcome.reasons) serves.5 tells,
+    )
+of_outcome (by_program code edition) filter bytes m image outcome serves valid is ends tells =
     let same : image_bytes filter.edition m filter.slots ≡ image_bytes edition m filter.slots = ap (λ (e : Edition). image_bytes e m filter.slots) serves.3 in
     let none : image_bytes edition m filter.slots ≡ image_bytes edition m no_slots = ap (λ (slots : List ℕ). image_bytes edition m slots) (none_is_zeros filter.slots serves.1 serves.2) in
     let ends : Ends filter.program (image_bytes edition m no_slots) outcome.verdict outcome.steps = subst (λ (b : List ℕ). Ends filter.program b outcome.verdict outcome.steps) (is ∙ same ∙ none) ends in
@@ -38,5 +46,5 @@ of_outcome (by_program code edition) filter bytes m image outcome serves valid i
 
 -- a filter has the words of who judges
 pub words_are : (judge : Judge) (filter : Filter) → Serves judge filter → filter.words ≡ words_of judge
-words_are (by_rule tree owns) filter serves = serves.4
+words_are (by_rule tree owns front) filter serves = serves.4
 words_are (by_program code edition) filter serves = serves.4

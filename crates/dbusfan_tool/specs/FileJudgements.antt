@@ -1,6 +1,5 @@
 -- What a judge finds of a file (own).
 use Rattle.std.specs.Prelude.{◌≡◌, ◌⊎◌, ◌||◌, ℕ, Bool, true, false, List, ◌++◌, None, Some, Result, Ok, Err}
-use Rattle.bpf_machine.specs.declared.machine.Outcome.{Outcome}
 use Rattle.message_value.specs.declared.error.MsgError.{MsgError}
 use Rattle.message_view.specs.Reading.{message_at}
 use Rattle.captures.specs.Beginnings.{is_capture}
@@ -10,6 +9,7 @@ use Rattle.command_line.specs.declared.error.Fault.TheVariants.{Message as BadMe
 use Rattle.command_line.specs.Files.{Content, Whole, Begun, Broken}
 use Rattle.command_line.specs.HexText.{bytes_of_hex}
 use Rattle.dbusfan_tool.specs.declared.finding.Finding.{Finding}
+use Rattle.dbusfan_tool.specs.declared.judgement.Judgement.{Judgement}
 use Rattle.dbusfan_tool.specs.Judges.{Judge, IsOutcome}
 use Rattle.dbusfan_tool.specs.Findings.{AreFirst, Report, Reports}
 use Rattle.dbusfan_tool.specs.Reports.{words_of, said_of_capture, said_of_outcome, breaking_off}
@@ -23,7 +23,7 @@ bytes_of (Broken bytes) = bytes
 
 -- what is found of a file: of its one message, or of the messages of a capture
 pub data Found : Type 0 where
-  of_message : Outcome → Found
+  of_message : Judgement → Found
   of_capture : Report → Found
 
 -- What a judge finds of a file, where `gave` says what it gave. Its faults are, in this order: that it can't be read, that
@@ -33,7 +33,7 @@ pub data Finds (gave : Content → Type 0) (judge : Judge) (each : Bool) : Resul
   no_file : {came : List ℕ} → gave (Broken came) → Finds gave judge each (Err File)
   no_hex : {text : List ℕ} → gave (Whole text) → each ≡ false → is_capture text ≡ false → bytes_of_hex text ≡ None → Finds gave judge each (Err Hex)
   no_message : {text bytes : List ℕ} {fault : MsgError} → gave (Whole text) → each ≡ false → bytes_of_hex text ≡ Some bytes → message_at bytes ≡ Err fault → Finds gave judge each (Err (BadMessage fault))
-  message : {text bytes : List ℕ} {outcome : Outcome} → gave (Whole text) → each ≡ false → bytes_of_hex text ≡ Some bytes → IsOutcome judge bytes outcome → Finds gave judge each (Ok (of_message outcome))
+  message : {text bytes : List ℕ} {outcome : Judgement} → gave (Whole text) → each ≡ false → bytes_of_hex text ≡ Some bytes → IsOutcome judge bytes outcome → Finds gave judge each (Ok (of_message outcome))
   capture : {content : Content} {report : Report} → gave content → (each || is_capture (bytes_of content)) ≡ true → Reports judge content report → Finds gave judge each (Ok (of_capture report))
 
 -- Lines were said of the first messages of a capture, of which no more can be read, or for which memory is short.

@@ -1,16 +1,17 @@
 -- What is found of the messages of a capture (own).
-use Rattle.std.specs.Prelude.{◌≡◌, ◌==◌, ℕ, suc, true, false, List, [], ◌∷◌, ◌++◌, Option, Ok, Err, if◌then◌else◌}
+use Rattle.std.specs.Prelude.{◌≡◌, ◌==◌, ℕ, suc, true, false, List, [], ◌∷◌, ◌++◌, Option, Err, if◌then◌else◌}
+use Rattle.message_view.specs.Reading.{message_at}
 use Rattle.captures.specs.declared.error.CaptureError.{CaptureError}
 use Rattle.captures.specs.Contents.{TimedMessage, Contents, contents}
 use Rattle.command_line.specs.Files.{Content, Whole, Begun, Broken}
 use Rattle.dbusfan_tool.specs.declared.finding.Finding.{Finding}
 use Rattle.dbusfan_tool.specs.declared.finding.Finding.TheVariants.{Judged, Cut, NoMessage}
-use Rattle.dbusfan_tool.specs.Judges.{Judge, IsJudgement}
+use Rattle.dbusfan_tool.specs.Judges.{Judge, IsOutcome}
 
 -- what a judge says of a packet, unless it was cut
 abbrev pub IsFinding : Judge → TimedMessage → Finding → Type 0
-IsFinding judge packet (Judged outcome) = (packet.is_cut ≡ false) × IsJudgement judge packet.message (Ok outcome)
-IsFinding judge packet (NoMessage fault) = (packet.is_cut ≡ false) × IsJudgement judge packet.message (Err fault)
+IsFinding judge packet (Judged outcome) = (packet.is_cut ≡ false) × IsOutcome judge packet.message outcome
+IsFinding judge packet (NoMessage fault) = (packet.is_cut ≡ false) × (message_at packet.message ≡ Err fault)
 IsFinding judge packet Cut = packet.is_cut ≡ true
 
 -- a finding for each packet, in their order

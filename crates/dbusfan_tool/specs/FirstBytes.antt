@@ -1,7 +1,6 @@
 -- Inner: reading the first bytes of a file.
 use Rattle.std.specs.Prelude.{◌≡◌, ◌≤◌, ◌⊎◌, ℕ, Bool, true, false, List, [], ◌++◌, length, Result, Ok, Err, string_bytes}
 use Rattle.std.specs.Global.{Vec}
-use Rattle.bpf_machine.specs.declared.machine.Outcome.{Outcome}
 use Rattle.captures.specs.Contents.{contents}
 use Rattle.command_line.specs.declared.error.Fault.{Fault}
 use Rattle.command_line.specs.declared.error.Fault.TheVariants as faults
@@ -10,6 +9,7 @@ use Rattle.command_line.specs.Files.{Content, Whole, Broken, ReadsFile}
 use Rattle.dbusfan_tool.specs.declared.beginning.Beginning.{Beginning}
 use Rattle.dbusfan_tool.specs.declared.capturing.CaptureEnd.{CaptureEnd}
 use Rattle.dbusfan_tool.specs.declared.finding.Finding.{Finding}
+use Rattle.dbusfan_tool.specs.declared.judgement.Judgement.{Judgement}
 use Rattle.dbusfan_tool.specs.declared.wording.Wording.{Wording}
 use Rattle.dbusfan_tool.specs.Judges.{Judge}
 use Rattle.dbusfan_tool.specs.Findings.{AreFirst, Reports}
@@ -56,6 +56,6 @@ abbrev pub BreaksCapture : Judge → Wording → Bool → List ℕ → (Content 
 BreaksCapture judge words each written gave fault = (findings : List Finding) × BreaksOff gave judge fault findings × (written ≡ lines_of words each findings)
 
 -- what is found of the message that a file has as hexadecimal text, or that memory is short
-abbrev pub FindsMessage : (Content → Type 0) → Judge → Result Outcome Fault → Type 0
+abbrev pub FindsMessage : (Content → Type 0) → Judge → Result Judgement Fault → Type 0
 FindsMessage gave judge (Ok outcome) = Finds gave judge false (Ok (of_message outcome))
 FindsMessage gave judge (Err fault) = Finds gave judge false (Err fault) ⊎ (fault ≡ faults.Memory)

@@ -1,7 +1,6 @@
 -- How it is said what is found of messages (own).
-use Rattle.std.specs.Prelude.{ℕ, ◌+◌, Bool, List, [], ◌∷◌, ◌++◌, codes, decimal, Option, Some, None, is_some, ◌==◌, if◌then◌else◌}
+use Rattle.std.specs.Prelude.{ℕ, ◌+◌, Bool, List, [], ◌∷◌, ◌++◌, codes, decimal, string_bytes, Option, Some, None, is_some, ◌==◌, if◌then◌else◌}
 use Rattle.message_value.specs.Errors.{name_of as message_name}
-use Rattle.bpf_machine.specs.declared.machine.Outcome.{Outcome}
 use Rattle.captures.specs.declared.error.CaptureError.{CaptureError}
 use Rattle.captures.specs.Errors.{text_of as capture_text}
 use Rattle.command_line.specs.declared.error.Fault.{Fault}
@@ -9,6 +8,7 @@ use Rattle.command_line.specs.Errors.{line_end, fault_line, fault_status}
 use Rattle.dbusfan_tool.specs.declared.wording.Wording.{Wording}
 use Rattle.dbusfan_tool.specs.declared.wording.Wording.TheVariants.{OfRule, OfProgram}
 use Rattle.dbusfan_tool.specs.declared.finding.Finding.{Finding}
+use Rattle.dbusfan_tool.specs.declared.judgement.Judgement.{Judgement}
 use Rattle.dbusfan_tool.specs.declared.finding.Finding.TheVariants.{Judged, Cut, NoMessage}
 use Rattle.dbusfan_tool.specs.Judges.{Judge, by_rule, by_program}
 use Rattle.dbusfan_tool.specs.Findings.{Report, judged_count, accepted_count}
@@ -16,16 +16,20 @@ use Rattle.dbusfan_tool.specs.Answer.{Said}
 
 -- whose words are used
 abbrev pub words_of : Judge → Wording
-words_of (by_rule tree owns) = OfRule
+words_of (by_rule tree owns front) = OfRule
 words_of (by_program code edition) = OfProgram
 
+-- that the rule doesn't match, and why
+abbrev pub no_match_line : List ℕ → List ℕ
+no_match_line reasons = codes "no match" ++ reasons ++ line_end
+
 -- what is said of one message: whether the rule matches, or the program's verdict and the number of its steps
-abbrev pub outcome_line : Wording → Outcome → List ℕ
-outcome_line OfRule outcome = if outcome.verdict == 0 then codes "no match" ++ line_end else codes "match" ++ line_end
+abbrev pub outcome_line : Wording → Judgement → List ℕ
+outcome_line OfRule outcome = if outcome.verdict == 0 then no_match_line (string_bytes outcome.reasons) else codes "match" ++ line_end
 outcome_line OfProgram outcome = codes "verdict " ++ decimal outcome.verdict ++ codes " steps " ++ decimal outcome.steps ++ line_end
 
 -- a message alone: the status is 0 where it is accepted, else 1
-abbrev pub said_of_outcome : Wording → Outcome → Said
+abbrev pub said_of_outcome : Wording → Judgement → Said
 said_of_outcome words outcome = record { lines = []; output = outcome_line words outcome; error = []; status = if outcome.verdict == 0 then 1 else 0 }
 
 -- on standard output: a message's number and what is said of it

@@ -19,6 +19,7 @@ use crate::finding::Finding;
 use crate::tally::Tally;
 use captures::{CaptureError, Packet, Packets, Step};
 use command_line::{Fault, Files, Output, Writer};
+use message_view::View;
 use std::alloc::{AllocError, Global};
 
 /// What is found of a capture, and the fault that ends it.
@@ -59,7 +60,7 @@ pub(crate) fn judge_capture<F: Files, O: Writer>(
         mut is_open,
     } = beginning;
     for _ in 0..u64::MAX {
-        let taken = take_packets(filter, &mut packets, &bytes, &mut tally)?;
+        let taken = take_packets(alloc, filter, &mut packets, &bytes, &mut tally)?;
         tally.put_lines(out);
         let len = match taken {
             Taken::Until(len) => len,
@@ -96,6 +97,7 @@ fn left_after(alloc: Global, bytes: Vec<u8>, len: usize) -> Result<Vec<u8>, Allo
 
 /// Takes the packets that bytes begin with.
 fn take_packets(
+    alloc: Global,
     filter: &Filter,
     packets: &mut Packets,
     bytes: &[u8],
@@ -111,7 +113,8 @@ fn take_packets(
         let rest = after(bytes, taken);
         match packets.next(rest) {
             Ok(Step::Message(packet)) => {
-                tally.take(finding_of(filter, packet, rest))?;
+                let finding = finding_of(alloc, filter, packet, rest)?;
+                tally.take(finding)?;
                 taken += packet.len;
             }
             Ok(Step::Other { len, .. }) => {
@@ -126,17 +129,25 @@ fn take_packets(
 }
 
 /// What a filter says of a packet.
-fn finding_of(filter: &Filter, packet: Packet, bytes: &[u8]) -> Finding
+fn finding_of(
+    alloc: Global,
+    filter: &Filter,
+    packet: Packet,
+    bytes: &[u8],
+) -> Result<Finding, AllocError>
     requires in_order { packet.start ≤ packet.end }
     requires there { packet.end ≤ length bytes.now }
-    ensures { (judge : Judge) → Serves judge filter.now → IsFinding judge (message_in packet bytes.now) result }
+    ensures { IfOk result (λ finding. (judge : Judge) → Serves judge filter.now → IsFinding judge (message_in packet bytes.now) finding) }
 {
     if packet.is_cut {
-        return Finding::Cut;
+        return Ok(Finding::Cut);
     }
-    match filter.judge(packet.message(bytes)) {
-        Ok(outcome) => Finding::Judged(outcome),
-        Err(fault) => Finding::NoMessage(fault),
+    match View::read(packet.message(bytes)) {
+        Ok(message) => {
+            let judgement = filter.judge(alloc, &message)?;
+            Ok(Finding::Judged(judgement))
+        }
+        Err(fault) => Ok(Finding::NoMessage(fault)),
     }
 }
 

@@ -53,7 +53,7 @@ pub(crate) fn rule_program(alloc: Global, rule: &str) -> Result<Verified, Fault>
 }
 
 /// The program of a rule, or what it means for a command that there is none.
-fn program_of(alloc: Global, rule: &Rule) -> Result<Verified, Fault>
+pub(crate) fn program_of(alloc: Global, rule: &Rule) -> Result<Verified, Fault>
     ensures compiled { IfOk result (λ program. IsCompiled rule.now (slot_for rule.now) program) }
     ensures refused { IfErr result (λ fault. (error : CompileError) × IsRefusal rule.now error × (fault ≡ fault_of_compile error)) }
 {

@@ -15,10 +15,11 @@ use crate::answer::Answer;
 use crate::beginning::Beginning;
 use crate::capturing::judge_capture;
 use crate::filter::Filter;
+use crate::judgement::Judgement;
 use crate::report::answer_of_outcome;
-use bpf_machine::Outcome;
 use captures::is_capture;
 use command_line::{Fault, Files, Output, Writer, decode};
+use message_view::View;
 use std::alloc::Global;
 
 /// What a filter says of the message in a file, or of the messages of the capture that it is. The lines of a capture's
@@ -42,7 +43,7 @@ pub(crate) fn answer<F: Files, O: Writer>(
         return capture_answer(alloc, filter, each, files, beginning, out);
     }
     match outcome(alloc, filter, files, beginning) {
-        Ok(outcome) => answer_of_outcome(alloc, filter.words, outcome),
+        Ok(outcome) => answer_of_outcome(alloc, filter.words, &outcome),
         Err(fault) => Answer::Fault(fault),
     }
 }
@@ -95,13 +96,14 @@ fn outcome<F: Files>(
     filter: &Filter,
     files: &mut F,
     beginning: Beginning,
-) -> Result<Outcome, Fault>
+) -> Result<Judgement, Fault>
     ensures { (judge : Judge) (before : F) (name : List ℕ) → Serves judge filter.now → F.gives before name (so_far beginning.is_open beginning.bytes.items) files.old
         → is_capture beginning.bytes.items ≡ false → IsSure beginning
         → FindsMessage (λ content. F.gives before name content files.new) judge result }
 {
     let text = beginning.read_rest(files)?;
     let bytes = decode(alloc, &text)?;
-    let outcome = filter.judge(&bytes)?;
+    let message = View::read(&bytes)?;
+    let outcome = filter.judge(alloc, &message)?;
     Ok(outcome)
 }

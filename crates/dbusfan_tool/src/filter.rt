@@ -1,19 +1,23 @@
 // What judges messages.
 
-ghost use Rattle.std.specs.Prelude.{◌≡◌};
+ghost use Rattle.std.specs.Prelude.{◌≡◌, IfOk, option_map, string_bytes};
+ghost use Rattle.message_view.specs.Message.{Message};
+ghost use Rattle.message_view.specs.Valid.{Valid};
 ghost use Rattle.summary.specs.Sets.{has_slot, IsSet};
-ghost use Rattle.match_rule.specs.RuleTree.{RuleTree};
 ghost use Rattle.rule_compile.specs.Compiled.{IsCompiled};
 ghost use Rattle.dbusfan_tool.specs.Compiling.{slot_for};
-ghost use Rattle.dbusfan_tool.specs.Judges.{Judge, by_rule, by_program, IsJudgement};
-ghost use Rattle.dbusfan_tool.specs.Filters.{Serves};
+ghost use Rattle.dbusfan_tool.specs.Judges.{Judge, by_rule, by_program, IsOutcome};
+ghost use Rattle.dbusfan_tool.specs.Filters.{Serves, TellsOf};
 
 use crate::compiling::SENDER_SLOT;
+use crate::judgement::Judgement;
+use crate::why::Why;
 use crate::wording::Wording;
 use bpf_machine::{Outcome, run};
 use bpf_verify::Verified;
-use message_value::MsgError;
+use match_rule::Rule;
 use message_view::View;
+use std::alloc::{AllocError, Global};
 use summary::{Edition, Image, Slots};
 
 /// A program that judges messages, a rule's or one of its own, with the slots that all senders own.
@@ -23,12 +27,19 @@ pub(crate) struct Filter {
     slots: Slots,
     edition: Edition,
     pub(crate) words: Wording,
+    why: Option<Why>,
 }
 
 impl Filter {
-    /// The filter of a rule's program.
-    pub(crate) fn of_rule(program: Verified, owns: bool) -> Filter
-        ensures { (tree : RuleTree) → IsCompiled tree (slot_for tree) program → Serves (by_rule tree owns) result }
+    /// The filter of a rule and its program. A text stands before each reason why the rule doesn't match, if reasons are
+    /// wanted.
+    pub(crate) fn of_rule(
+        program: Verified,
+        rule: Rule,
+        owns: bool,
+        front: Option<&'static str>,
+    ) -> Filter
+        ensures { IsCompiled rule (slot_for rule) program → Serves (by_rule rule owns (option_map (λ text. text.now) front.entry)) result }
     {
         let owned = slots(owns);
         Filter {
@@ -36,6 +47,7 @@ impl Filter {
             slots: owned,
             edition: Edition::Two,
             words: Wording::OfRule,
+            why: Why::of(rule, owns, front),
         }
     }
 
@@ -49,16 +61,32 @@ impl Filter {
             slots: none,
             edition,
             words: Wording::OfProgram,
+            why: None,
         }
     }
 
-    /// What it says of the message that bytes are.
-    pub(crate) fn judge(&self, bytes: &[u8]) -> Result<Outcome, MsgError>
-        ensures { (judge : Judge) → Serves judge self.now → IsJudgement judge bytes.now result }
+    /// What it says of a message.
+    pub(crate) fn judge(&self, alloc: Global, message: &View<'_>) -> Result<Judgement, AllocError>
+        ensures { IfOk result (λ judgement. (judge : Judge) (m : Message) → Serves judge self.now → Valid message.now m → IsOutcome judge message.now judgement) }
     {
-        let message = View::read(bytes)?;
-        let image = Image::new(&message, &self.slots, self.edition);
-        Ok(run(&self.program, &image))
+        let image = Image::new(message, &self.slots, self.edition);
+        let Outcome { verdict, steps } = run(&self.program, &image);
+        let reasons = self.reasons(alloc, message)?;
+        Ok(Judgement {
+            verdict,
+            steps,
+            reasons,
+        })
+    }
+
+    /// Why a message isn't accepted, where that is wanted.
+    fn reasons(&self, alloc: Global, message: &View<'_>) -> Result<String, AllocError>
+        ensures { IfOk result (λ reasons. (m : Message) → Valid message.now m → TellsOf self.now.why m (string_bytes reasons)) }
+    {
+        match &self.why {
+            Some(why) => why.reasons(alloc, message),
+            None => Ok(String::new(alloc)),
+        }
     }
 }
 

@@ -1,13 +1,13 @@
 // What is found of the packets of a capture.
 
-use bpf_machine::Outcome;
+use crate::judgement::Judgement;
 use message_value::MsgError;
 
 /// What is found of a packet of D-Bus.
-#[derive(Clone, Copy, Debug, PartialEq, Eq)]
+#[derive(Drop)]
 pub(crate) enum Finding {
     /// What is said of its message.
-    Judged(Outcome),
+    Judged(Judgement),
     /// It is only the beginning of a message, and passed over.
     Cut,
     /// Its bytes are no message, and it is passed over.

@@ -14,6 +14,7 @@ mod file_judging;
 mod filter;
 mod finding;
 mod help;
+mod judgement;
 mod matching;
 mod program;
 mod reasons;
@@ -21,6 +22,7 @@ mod report;
 mod running;
 mod sentences;
 mod tally;
+mod why;
 mod wording;
 
 pub use command_line::{Fault, FileError, Files, Output, Writer};

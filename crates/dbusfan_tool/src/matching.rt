@@ -1,17 +1,23 @@
-// `match RULE FILE [--owns] [--each]`.
+// `match RULE FILE [--owns] [--each] [--why]`.
 
-ghost use Rattle.std.specs.Prelude.{◌≡◌, ◌⊎◌, ℕ, List};
+ghost use Rattle.std.specs.Prelude.{◌≡◌, ◌⊎◌, ℕ, List, IfOk, IfErr, option_map};
 ghost use Rattle.command_line.specs.CommandRow.{to_match};
 ghost use Rattle.command_line.specs.Files.{MadeReads};
 ghost use Rattle.command_line.specs.Output.{PutsParts};
-ghost use Rattle.dbusfan_tool.specs.Tool.{Tool};
+ghost use Rattle.match_rule.specs.RuleTree.{RuleTree};
+ghost use Rattle.match_rule.specs.Grammar.{ReadsAs};
+ghost use Rattle.dbusfan_tool.specs.Compiling.{IsRuleFault};
+ghost use Rattle.dbusfan_tool.specs.Filters.{Serves};
+ghost use Rattle.dbusfan_tool.specs.Judges.{by_rule};
+ghost use Rattle.dbusfan_tool.specs.Tool.{Tool, front_of};
 ghost use Rattle.dbusfan_tool.specs.Views.{SaysAfter};
 
 use crate::answer::Answer;
-use crate::compiling::rule_program;
+use crate::compiling::program_of;
 use crate::file_judging;
 use crate::filter::Filter;
-use command_line::{Files, Output, Writer};
+use command_line::{Fault, Files, Output, Writer};
+use match_rule::Rule;
 use std::alloc::Global;
 
 /// Whether the rule matches the message in the file, or messages of the capture in it, or the first fault.
@@ -21,17 +27,42 @@ pub(crate) fn answer<F: Files, O: Writer>(
     file: &str,
     owns: bool,
     each: bool,
+    why: bool,
     files: &mut F,
     out: &mut Output<O>,
 ) -> Answer
     ensures { (written : List ℕ) × PutsParts O.takes O.flushes O.may_fail out.old out.new written
-        × SaysAfter (Tool (MadeReads F.gives files.old files.new) (to_match rule.now file.now owns each)) written result }
+        × SaysAfter (Tool (MadeReads F.gives files.old files.new) (to_match rule.now file.now owns each why)) written result }
 {
-    match rule_program(alloc, rule) {
-        Ok(program) => {
-            let filter = Filter::of_rule(program, owns);
-            file_judging::answer(alloc, &filter, file, each, files, out)
-        }
+    match rule_filter(alloc, rule, owns, front_of(why, each)) {
+        Ok(filter) => { file_judging::answer(alloc, &filter, file, each, files, out) }
         Err(fault) => Answer::Fault(fault),
     }
+}
+
+/// What comes before each reason why the rule doesn't match: reasons follow one another on the line of a capture's message,
+/// and of a message alone each has a line.
+fn front_of(why: bool, each: bool) -> Option<&'static str>
+    ensures { option_map (λ text. text.now) result ≡ front_of why each }
+{
+    match (why, each) {
+        (false, _) => None,
+        (true, true) => Some("; "),
+        (true, false) => Some("\n"),
+    }
+}
+
+/// The filter of the rule that a text spells, or the first fault.
+fn rule_filter(
+    alloc: Global,
+    rule: &str,
+    owns: bool,
+    front: Option<&'static str>,
+) -> Result<Filter, Fault>
+    ensures found { IfOk result (λ filter. (tree : RuleTree) × ReadsAs rule.now tree × Serves (by_rule tree owns (option_map (λ text. text.now) front.entry)) filter) }
+    ensures fault { IfErr result (λ fault. IsRuleFault rule.now fault ⊎ (fault ≡ Fault.Memory)) }
+{
+    let rule = Rule::read(alloc, rule)?;
+    let program = program_of(alloc, &rule)?;
+    Ok(Filter::of_rule(program, rule, owns, front))
 }

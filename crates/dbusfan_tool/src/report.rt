@@ -1,22 +1,22 @@
 // How it is said what is found of messages.
 
 ghost use Rattle.std.specs.Prelude.{◌≡◌, ◌⊎◌, ◌++◌, IfOk, OnOk, string_bytes};
-ghost use Rattle.dbusfan_tool.specs.Reports.{outcome_line, said_of_outcome, verdict_line, note_line, count_line, summary_line, last_line, passed_over_line, capture_line, capture_status};
+ghost use Rattle.dbusfan_tool.specs.Reports.{no_match_line, outcome_line, said_of_outcome, verdict_line, note_line, count_line, summary_line, last_line, passed_over_line, capture_line, capture_status};
 ghost use Rattle.dbusfan_tool.specs.Answer.{failing};
 ghost use Rattle.dbusfan_tool.specs.Views.{said_by};
 
 use crate::answer::Answer;
 use crate::finding::Finding;
+use crate::judgement::Judgement;
 use crate::wording::Wording;
-use bpf_machine::Outcome;
 use captures::CaptureError;
 use command_line::Fault;
 use std::alloc::{AllocError, Global};
 use std::fmt::Write;
 
 /// What is said of a message alone.
-pub(crate) fn answer_of_outcome(alloc: Global, words: Wording, outcome: Outcome) -> Answer
-    ensures { (said_by result ≡ said_of_outcome words outcome) ⊎ (said_by result ≡ failing Fault.Memory) }
+pub(crate) fn answer_of_outcome(alloc: Global, words: Wording, outcome: &Judgement) -> Answer
+    ensures { (said_by result ≡ said_of_outcome words outcome.now) ⊎ (said_by result ≡ failing Fault.Memory) }
 {
     let mut output = String::new(alloc);
     match put_outcome(&mut output, words, outcome) {
@@ -29,15 +29,24 @@ pub(crate) fn answer_of_outcome(alloc: Global, words: Wording, outcome: Outcome)
     }
 }
 
-fn put_outcome(text: &mut String, words: Wording, outcome: Outcome) -> Result<(), AllocError>
-    ensures { OnOk result (string_bytes text.new ≡ string_bytes text.old ++ outcome_line words outcome) }
+fn put_outcome(text: &mut String, words: Wording, outcome: &Judgement) -> Result<(), AllocError>
+    ensures { OnOk result (string_bytes text.new ≡ string_bytes text.old ++ outcome_line words outcome.now) }
 {
-    let Outcome { verdict, steps } = outcome;
+    let verdict = outcome.verdict;
+    let steps = outcome.steps;
     match words {
-        Wording::OfRule if verdict == 0 => text.push_str("no match\n"),
+        Wording::OfRule if verdict == 0 => put_no_match(text, outcome.reasons.as_str()),
         Wording::OfRule => text.push_str("match\n"),
         Wording::OfProgram => write!(text, "verdict {verdict} steps {steps}\n"),
     }
+}
+
+fn put_no_match(text: &mut String, reasons: &str) -> Result<(), AllocError>
+    ensures { OnOk result (string_bytes text.new ≡ string_bytes text.old ++ no_match_line reasons.now) }
+{
+    text.push_str("no match")?;
+    text.push_str(reasons)?;
+    text.push_str("\n")
 }
 
 /// Writes the line of a packet on standard output at the end of a text.
@@ -45,9 +54,9 @@ pub(crate) fn put_verdict_line(
     text: &mut String,
     words: Wording,
     number: u64,
-    finding: Finding,
+    finding: &Finding,
 ) -> Result<(), AllocError>
-    ensures { OnOk result (string_bytes text.new ≡ string_bytes text.old ++ verdict_line words number finding) }
+    ensures { OnOk result (string_bytes text.new ≡ string_bytes text.old ++ verdict_line words number finding.now) }
 {
     match finding {
         Finding::Judged(outcome) => {
@@ -62,9 +71,9 @@ pub(crate) fn put_verdict_line(
 pub(crate) fn put_note_line(
     text: &mut String,
     number: u64,
-    finding: Finding,
+    finding: &Finding,
 ) -> Result<(), AllocError>
-    ensures { OnOk result (string_bytes text.new ≡ string_bytes text.old ++ note_line number finding) }
+    ensures { OnOk result (string_bytes text.new ≡ string_bytes text.old ++ note_line number finding.now) }
 {
     match finding {
         Finding::Judged(_) => Ok(()),

@@ -58,16 +58,16 @@ impl Tally {
             → IsTally words each self.new written (found ++ finding ∷ []) passed) }
     {
         let number = one_more(self.packets)?;
-        self.put_texts(number, finding)?;
-        self.count(finding)?;
+        self.put_texts(number, &finding)?;
+        self.count(&finding)?;
         self.packets = number;
         Ok(())
     }
 
     /// Puts the lines of a packet after those of the packets before.
-    fn put_texts(&mut self, number: u64, finding: Finding) -> Result<(), AllocError>
-        ensures lines { OnOk result (string_bytes self.new.lines ≡ string_bytes self.old.lines ++ (if self.old.each then verdict_line self.old.words number finding else [])) }
-        ensures notes { OnOk result (string_bytes self.new.notes ≡ string_bytes self.old.notes ++ note_line number finding) }
+    fn put_texts(&mut self, number: u64, finding: &Finding) -> Result<(), AllocError>
+        ensures lines { OnOk result (string_bytes self.new.lines ≡ string_bytes self.old.lines ++ (if self.old.each then verdict_line self.old.words number finding.now else [])) }
+        ensures notes { OnOk result (string_bytes self.new.notes ≡ string_bytes self.old.notes ++ note_line number finding.now) }
         ensures same { self.new ≡ record self.old { lines = self.new.lines; notes = self.new.notes } }
     {
         put_note_line(&mut self.notes, number, finding)?;
@@ -78,8 +78,8 @@ impl Tally {
     }
 
     /// Counts the message that was judged, if one was, and whether it is accepted.
-    fn count(&mut self, finding: Finding) -> Result<(), AllocError>
-        ensures { OnOk result (self.new ≡ record self.old { judged = self.old.judged + judged_count (finding ∷ []); accepted = self.old.accepted + accepted_count (finding ∷ []) }) }
+    fn count(&mut self, finding: &Finding) -> Result<(), AllocError>
+        ensures { OnOk result (self.new ≡ record self.old { judged = self.old.judged + judged_count (finding.now ∷ []); accepted = self.old.accepted + accepted_count (finding.now ∷ []) }) }
     {
         if let Finding::Judged(outcome) = finding {
             self.judged = one_more(self.judged)?;

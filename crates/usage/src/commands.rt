@@ -67,7 +67,7 @@ pub(crate) static COMMANDS: [CommandHelp; 7] = [
     CommandHelp {
         name: "match",
         about: "Says whether a rule matches a message, or messages of a capture",
-        arguments: &[RULE, MESSAGE, OWNS, EACH],
+        arguments: &[RULE, MESSAGE, OWNS, EACH, WHY],
     },
     CommandHelp {
         name: "asm",
@@ -298,6 +298,13 @@ const EACH: ArgumentHelp = ArgumentHelp {
     form: Form::Flag,
     is_required: false,
     text: "FILE is a capture; a line is printed for each message",
+};
+
+const WHY: ArgumentHelp = ArgumentHelp {
+    name: "why",
+    form: Form::Flag,
+    is_required: false,
+    text: "Says of a message that doesn't match which conditions don't hold, and what it has there",
 };
 
 const PROGRAM: ArgumentHelp = ArgumentHelp {

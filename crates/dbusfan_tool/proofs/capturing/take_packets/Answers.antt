@@ -9,10 +9,10 @@ loop-packet-preserved-in-Ok-Message c =
     let left : length c.after-rest.result.now ≡ length c.args.bytes.now - c.loop-packet.taken = ap length c.after-rest.ensures ∙ length-drop c.loop-packet.taken c.args.bytes.now in (
       λ judge words each came written found passed serves tally at.
           let so = c.loop-packet.invariant.0 judge words each came written found passed serves tally at in (
-            so.0 ++ c.finding_of.result ∷ [],
+            so.0 ++ c.in_ok-finding-in-Ok-Message.finding ∷ [],
             so.1,
             c.in_ok-take-in-Ok-Message.ensures words each written so.0 so.1 so.2,
-            takes_message judge came so.0 so.1 c.loop-packet.packets c.next.new.self c.args.bytes.now c.after-rest.result.now c.loop-packet.taken so.3 c.after-rest.ensures c.in-Ok-Message.packet c.finding_of.result gives (c.finding_of.ensures judge serves),
+            takes_message judge came so.0 so.1 c.loop-packet.packets c.next.new.self c.args.bytes.now c.after-rest.result.now c.loop-packet.taken so.3 c.after-rest.ensures c.in-Ok-Message.packet c.in_ok-finding-in-Ok-Message.finding gives (c.in_ok-finding-in-Ok-Message.ensures judge serves),
           ),
       omega (arith, left, within.3, c.loop-packet.invariant.1),
     )

@@ -1,20 +1,23 @@
-use Rattle.std.proofs.Common.{[], inl, inr, refl, ap}
+use Rattle.std.proofs.Common.{ℕ, List, [], Option, inl, inr, refl, ap, subst}
 use Rattle.command_line.specs.CommandRow.{to_match}
 use Rattle.command_line.specs.Files.{MadeReads}
 use Rattle.command_line.specs.Output.{none}
 use Rattle.dbusfan_tool.specs.Answer.{Said, failing}
+use Rattle.dbusfan_tool.specs.Filters.{Serves}
 use Rattle.dbusfan_tool.specs.FileJudgements.{SaysOfFile}
 use Rattle.dbusfan_tool.specs.Judges.{by_rule}
-use Rattle.dbusfan_tool.specs.Tool.{Tool, no_rule, judged}
+use Rattle.dbusfan_tool.specs.Tool.{Tool, front_of, no_rule, judged}
 use Rattle.dbusfan_tool.proofs.Saying.{says_too}
 use Rattle.dbusfan_tool.proofs.matching.answer.Goals as goal
 
 pub returns-in-Ok : goal.returns-in-Ok
 returns-in-Ok g c =
     let rule = c.in-Ok.ensures.found in
-    let said = c.answer.ensures (by_rule rule.0 c.args.owns) (c.of_rule-filter.ensures rule.0 rule.2) in
-    let file_says : Said → Type 0 = SaysOfFile (λ content. g.F.Files.gives c.args.files.now c.args.file.now content c.answer.new.files) (by_rule rule.0 c.args.owns) c.args.each in
-    let row_says : Said → Type 0 = Tool (MadeReads g.F.Files.gives c.args.files.now c.answer.new.files) (to_match c.args.rule.now c.args.file.now c.args.owns c.args.each) in
+    let serves = subst (λ (front : Option (List ℕ)). Serves (by_rule rule.0 c.args.owns front) c.in-Ok.filter) c.front_of.ensures rule.2 in
+    let judge = by_rule rule.0 c.args.owns (front_of c.args.why c.args.each) in
+    let said = c.answer.ensures judge serves in
+    let file_says : Said → Type 0 = SaysOfFile (λ content. g.F.Files.gives c.args.files.now c.args.file.now content c.answer.new.files) judge c.args.each in
+    let row_says : Said → Type 0 = Tool (MadeReads g.F.Files.gives c.args.files.now c.answer.new.files) (to_match c.args.rule.now c.args.file.now c.args.owns c.args.each c.args.why) in
     (said.0, said.1, says_too file_says row_says said.0 c.answer.result (λ said says. judged rule.1 says) said.2)
 
 pub returns-in-Err : goal.returns-in-Err

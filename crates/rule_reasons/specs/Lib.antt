@@ -1,0 +1,4 @@
+pub mod Shown
+pub mod KeyWords
+pub mod Reasons
+pub mod Steps

@@ -1,0 +1,16 @@
+//! Why a match rule doesn't hold of a message, in lines for people. The layer above uses that `push_reasons` writes a line
+//! for each condition that doesn't hold, and one where the message is to somebody and the rule doesn't eavesdrop, and
+//! that there is none exactly where the rule holds.
+#![tactic(auto)]
+
+mod compared;
+mod explaining;
+mod holding;
+mod key_words;
+mod laws;
+mod namespace;
+mod reason;
+mod shown;
+
+pub use explaining::push_reasons;
+pub use laws::no_reason_where_it_holds;
