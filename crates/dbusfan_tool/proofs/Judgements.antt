@@ -18,12 +18,12 @@ use Rattle.dbusfan_tool.specs.Reports.{words_of}
 use Rattle.dbusfan_tool.proofs.Compiled.{agree}
 use Rattle.dbusfan_tool.proofs.NoSlots.{none_is_zeros}
 
--- reasons are told as they are wanted
-told : (front : Option (List ℕ)) (tree : RuleTree) (owns : Bool) (why : Option Why) (m : Message) (text : List ℕ) → Explains front tree owns why → TellsOf why m text → AreToldIf front tree m owns text
-told None tree owns None m text explains tells = tells
-told None tree owns (Some why) m text explains tells = absurd explains
-told (Some front) tree owns None m text explains tells = absurd explains
-told (Some front) tree owns (Some why) m text explains tells =
+-- reasons are explained as they are wanted
+explained : (front : Option (List ℕ)) (tree : RuleTree) (owns : Bool) (why : Option Why) (m : Message) (text : List ℕ) → Explains front tree owns why → TellsOf why m text → AreToldIf front tree m owns text
+explained None tree owns None m text explains tells = tells
+explained None tree owns (Some why) m text explains tells = absurd explains
+explained (Some front) tree owns None m text explains tells = absurd explains
+explained (Some front) tree owns (Some why) m text explains tells =
     let of_tree : AreTold why.front.now tree m why.owns text = subst (λ (t : RuleTree). AreTold why.front.now t m why.owns text) explains.0 tells in
     let of_sender : AreTold why.front.now tree m owns text = subst (λ (b : Bool). AreTold why.front.now tree m b text) explains.1 of_tree in
     subst (λ (f : List ℕ). AreTold f tree m owns text) explains.2 of_sender
@@ -36,7 +36,7 @@ of_outcome (by_rule tree owns front) filter bytes m image outcome serves valid i
       m,
       valid,
       serves.0 bytes m filter.slots (λ name. owns) outcome.verdict outcome.steps valid serves.1 (agree tree (sender_name_of tree) owns filter.slots refl serves.2) ends,
-      told front tree owns filter.why m (string_bytes outcome.reasons) serves.5 tells,
+      explained front tree owns filter.why m (string_bytes outcome.reasons) serves.5 tells,
     )
 of_outcome (by_program code edition) filter bytes m image outcome serves valid is ends tells =
     let same : image_bytes filter.edition m filter.slots ≡ image_bytes edition m filter.slots = ap (λ (e : Edition). image_bytes e m filter.slots) serves.3 in

@@ -60,10 +60,10 @@ no_lines m owns [] (line ∷ lines) none all = elim none [ ]
 no_lines m owns (c ∷ conditions) lines (holds held rest) all = no_lines m owns conditions lines rest (All-tail (λ c. ConditionHolds c m (λ name. owns)) c conditions all)
 no_lines m owns (c ∷ conditions) (line ∷ lines) (fails failed rest) all = absurd (failed (All-head (λ c. ConditionHolds c m (λ name. owns)) c conditions all))
 
-offered : (eavesdrops : Bool) (name : Option (List ℕ)) → (if eavesdrops then [] else lines_to name) ≡ [] → (name ≡ None) ⊎ (eavesdrops ≡ true)
-offered true name e = inr refl
-offered false None e = inl refl
-offered false (Some name) e = absurd (cc)
+destination_is_met : (eavesdrops : Bool) (name : Option (List ℕ)) → (if eavesdrops then [] else lines_to name) ≡ [] → (name ≡ None) ⊎ (eavesdrops ≡ true)
+destination_is_met true name e = inr refl
+destination_is_met false None e = inl refl
+destination_is_met false (Some name) e = absurd (cc)
 
 unsaid : (eavesdrops : Bool) (name : Option (List ℕ)) → (name ≡ None) ⊎ (eavesdrops ≡ true) → (if eavesdrops then [] else lines_to name) ≡ []
 unsaid true name fits = refl
@@ -79,7 +79,7 @@ pub none_where_it_holds : (rule : RuleTree) (m : Message) (owns : Bool) (lines :
 none_where_it_holds rule m owns lines reasons = (
   λ e.
       let parts = both_empty reasons.of_conditions (destination_lines rule m) (sym reasons.lines_are ∙ e) in
-      record { each = hold_all m owns rule.conditions reasons.of_conditions reasons.each parts.0; destination_fits = offered rule.eavesdrops (destination_of m) parts.1 },
+      record { each = hold_all m owns rule.conditions reasons.of_conditions reasons.each parts.0; destination_fits = destination_is_met rule.eavesdrops (destination_of m) parts.1 },
   λ h.
       reasons.lines_are
       ∙ ap (λ (front : List (List ℕ)). front ++ destination_lines rule m) (no_lines m owns rule.conditions reasons.of_conditions reasons.each h.each)

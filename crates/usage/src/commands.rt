@@ -133,7 +133,7 @@ pub(crate) static COMMANDS: [CommandHelp; 7] = [
                 name: "allow-external",
                 form: Form::Flag,
                 is_required: false,
-                text: "Lets in clients that claim any user, over TCP too",
+                text: "Lets in clients that claim any user or, over TCP, none",
             },
             ArgumentHelp {
                 name: "connections",
