@@ -1,0 +1,10 @@
+pub mod Items
+pub mod Counts
+pub mod Places
+pub mod Views
+pub mod Weights
+pub mod Taking
+pub mod Shut
+pub mod Seated
+pub mod Taken
+pub mod Released

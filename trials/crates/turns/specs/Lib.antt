@@ -1,0 +1,3 @@
+pub mod Places
+pub mod Rule
+pub mod Seated
