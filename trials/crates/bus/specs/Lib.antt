@@ -1,3 +1,0 @@
-pub mod Names
-pub mod Peers
-pub mod Given
