@@ -1,7 +1,6 @@
 -- The lines of conditions, with one condition more; and where there are none.
 use Rattle.std.proofs.Common.{◌≡◌, ℕ, ◌+◌, ◌<◌, Bool, true, false, List, [], ◌∷◌, ◌++◌, take, length, get_or, refl, sym, ap, ◌∙◌, subst, append_assoc, append-nil, inl, inr}
 use Rattle.std.specs.Prelude.{All, None, Option, Some, ◌↔◌, ◌⊎◌, if◌then◌else◌}
-use Rattle.std.specs.List.{flat_map}
 use Rattle.std.proofs.lemmas.List.{take_more}
 use Rattle.std.proofs.lemmas.List.Concat.{flat_map-append}
 use Rattle.std.proofs.lemmas.List.Elements.{All-cons, All-nil, All-head, All-tail}
@@ -9,7 +8,7 @@ use Rattle.message_view.specs.Message.{Message, destination_of}
 use Rattle.match_rule.specs.declared.condition.Condition.{Condition}
 use Rattle.match_rule.specs.RuleTree.{RuleTree}
 use Rattle.match_rule.specs.Holds.{ConditionHolds, Holds}
-use Rattle.rule_reasons.specs.Reasons.{reason_line, AreReasons, no_more, holds, fails, lines_to, destination_lines, AreAllReasons, after_fronts}
+use Rattle.rule_reasons.specs.Reasons.{AreReasons, no_more, holds, fails, lines_to, destination_lines, AreAllReasons, after_fronts}
 use Rattle.rule_reasons.specs.Steps.{Adds, nothing, one}
 
 -- ---- one condition more
