@@ -1,0 +1,11 @@
+pub mod Errors
+pub mod Answers
+pub mod Lexis
+pub mod Tokens
+pub mod Integers
+pub mod Words
+pub mod Operators
+pub mod Values
+pub mod Tests
+pub mod FilterTree
+pub mod Filters
