@@ -9,3 +9,7 @@ pub mod Values
 pub mod Tests
 pub mod FilterTree
 pub mod Filters
+pub mod Levels
+pub mod LevelViews
+pub mod Steps
+pub mod Readers
