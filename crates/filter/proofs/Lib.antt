@@ -1,3 +1,5 @@
 mod Digits
+mod Errors
 mod Fronts
 mod Numbers
+mod PastTurns

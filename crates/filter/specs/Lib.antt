@@ -13,3 +13,5 @@ pub mod Levels
 pub mod LevelViews
 pub mod Steps
 pub mod Readers
+pub mod Reading
+pub mod Turns

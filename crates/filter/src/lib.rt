@@ -14,6 +14,7 @@ mod opening;
 mod operator;
 mod quoted;
 mod reader;
+mod reading;
 mod takes;
 mod test;
 mod text;
