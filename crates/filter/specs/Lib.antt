@@ -15,3 +15,4 @@ pub mod Steps
 pub mod Readers
 pub mod Reading
 pub mod Turns
+pub mod Grammar

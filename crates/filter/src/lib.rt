@@ -7,6 +7,7 @@ mod error;
 mod filter;
 mod has;
 mod integer;
+mod laws;
 mod level;
 mod lexis;
 mod nesting;
@@ -24,6 +25,7 @@ mod value;
 pub use error::{Fault, FaultAt, FilterError};
 pub use filter::Filter;
 pub use integer::Integer;
+pub use laws::one_reading;
 pub use match_key::{ArgNumber, KindName};
 pub use test::{
     ArgType, Equality, Field, Flag, NumberRelation, NumberSource, Scope, Test, TextField,
