@@ -1,6 +1,6 @@
 -- What the grammar spells is read.
-use Rattle.std.proofs.Common.{◌≡◌, ℕ, zero, suc, ◌+◌, ◌<◌, Bool, true, false, List, [], ◌∷◌, ◌++◌, length, refl, sym, ap, ◌∙◌, append_assoc, arith, add-one}
-use Rattle.std.specs.Prelude.{Option, Some, None, Result, Ok, Err, codes, ◌||◌}
+use Rattle.std.proofs.Common.{◌≡◌, ℕ, zero, suc, ◌+◌, ◌<◌, false, List, [], ◌∷◌, ◌++◌, refl, sym, ap, ◌∙◌, append_assoc, arith, add-one}
+use Rattle.std.specs.Prelude.{Some, Result, Ok, codes}
 use Rattle.std.specs.Str.{bytes_eq}
 use Rattle.std.proofs.lemmas.Bool.{ne_eqb, false_from_ne_true}
 use Rattle.std.proofs.lemmas.List.{append-nil}
@@ -16,12 +16,11 @@ use Rattle.filter.specs.declared.test.Test.{Test}
 use Rattle.filter.specs.declared.token.Sign.TheVariants.{Opens, Closes}
 use Rattle.filter.specs.declared.value.Value.{Value}
 use Rattle.filter.specs.declared.value.Value.TheVariants as values
-use Rattle.filter.specs.Tokens.{Lexeme, word, sign}
+use Rattle.filter.specs.Tokens.{Lexeme, sign}
 use Rattle.filter.specs.Words.{opening_of}
-use Rattle.filter.specs.Operators.{has_operator}
 use Rattle.filter.specs.Tests.{test_of}
 use Rattle.filter.specs.FilterTree.{FilterTree, test, negation, all_of, any_of, negated}
-use Rattle.filter.specs.Levels.{LevelTree, Nest, empty_level, open_in, opened, max_open, if_room, filter_of, with_not, with_one, nest_one, nest_not, nest_open}
+use Rattle.filter.specs.Levels.{LevelTree, Nest, empty_level, open_in, opened, max_open, if_room, filter_of, with_not, nest_one}
 use Rattle.filter.specs.Steps.{◌>>=◌, State, wants, start, step, ended, word_step, wanted_after, is_connective, begin}
 use Rattle.filter.specs.Grammar.{not_word, and_word, or_word, IsTest, whole, has, typed, compares, IsOne, a_test, a_not, a_group, AreOnes, last_one, more_ones, AreAlls, last_all, more_alls, IsFilter, a_list}
 
@@ -79,7 +78,7 @@ test_read nest (compares first op it operand operator value is o fits v of) rest
 abbrev at : List LevelTree → List FilterTree → List FilterTree → Nest
 at outer alls ones = record { outer = outer; inner = record { alls = alls; ones = ones; nots = 0 } }
 
-negated_more : (n : ℕ) (f : FilterTree) → negated n (negation f) ≡ negated (suc n) f
+pub negated_more : (n : ℕ) (f : FilterTree) → negated n (negation f) ≡ negated (suc n) f
 negated_more zero f = refl
 negated_more (suc n) f = ap negation (negated_more n f)
 

@@ -4,4 +4,6 @@ mod Errors
 mod Fronts
 mod Numbers
 mod PastTurns
+mod SoFar
+mod Sound
 mod Spelled

@@ -1,11 +1,11 @@
 -- A turn of the reader takes off what it reads.
-use Rattle.std.proofs.Common.{◌≡◌, ℕ, zero, suc, ◌+◌, ◌-◌, ◌<◌, ◌≤◌, Bool, true, false, cond, List, [], ◌∷◌, length, drop, get_or, refl, sym, ap, ◌∙◌, arith, add-one, length-drop}
+use Rattle.std.proofs.Common.{◌≡◌, ℕ, zero, suc, ◌+◌, ◌-◌, ◌<◌, ◌≤◌, Bool, true, false, cond, List, [], ◌∷◌, length, drop, get_or, refl, ap, ◌∙◌, arith, add-one, length-drop}
 use Rattle.std.specs.Prelude.{Result, Ok, Err}
 use Rattle.std.proofs.Math.Seq.{drop-cons}
 use Rattle.std.proofs.lemmas.List.{drop-drop}
 use Rattle.filter.specs.declared.error.FaultAt.{FaultAt}
 use Rattle.filter.specs.Lexis.{is_blank}
-use Rattle.filter.specs.Tokens.{Lexeme, Item, item_then, token_at, items_from}
+use Rattle.filter.specs.Tokens.{Lexeme, item_then, token_at, items_from}
 use Rattle.filter.specs.FilterTree.{FilterTree}
 use Rattle.filter.specs.Steps.{State, step}
 use Rattle.filter.specs.Reading.{reads, placed, then_read}

@@ -3,7 +3,7 @@
 --     filter = all { "or" all }
 --     all    = one { "and" one }
 --     one    = "not" one | "(" filter ")" | test
-use Rattle.std.specs.Prelude.{◌≡◌, ℕ, ◌+◌, ◌<◌, ◌≤◌, Bool, true, List, [], ◌∷◌, ◌++◌, length, Some, Ok, codes}
+use Rattle.std.specs.Prelude.{◌≡◌, ℕ, ◌+◌, ◌<◌, ◌≤◌, true, List, [], ◌∷◌, ◌++◌, length, Some, Ok, codes}
 use Rattle.filter.specs.declared.token.Sign.TheVariants.{Opens, Closes}
 use Rattle.filter.specs.declared.test.ArgType.{ArgType}
 use Rattle.filter.specs.declared.test.Test.{Test}
@@ -15,7 +15,7 @@ use Rattle.filter.specs.declared.opening.Opening.TheVariants.{Whole, Has, Begins
 use Rattle.filter.specs.declared.operator.Operator.{Operator}
 use Rattle.filter.specs.declared.operator.Operator.TheVariants.{Is}
 use Rattle.filter.specs.declared.value.Value.{Value}
-use Rattle.filter.specs.Tokens.{Lexeme, word, quoted, sign, Item, token, bad}
+use Rattle.filter.specs.Tokens.{Lexeme, word, sign, Item, token}
 use Rattle.filter.specs.Words.{opening_of, has_test, type_named}
 use Rattle.filter.specs.Operators.{operator_of, has_operator}
 use Rattle.filter.specs.Values.{value_of}

@@ -5,7 +5,6 @@ use Rattle.match_key.specs.declared.arg_number.ArgNumber.{ArgNumber}
 use Rattle.filter.specs.declared.error.Fault.{Fault}
 use Rattle.filter.specs.declared.error.Fault.TheVariants.{NoTest, BadOperator, BadValue, BadType, BadField, NoConnective}
 use Rattle.filter.specs.declared.token.Sign.TheVariants.{Opens, Closes}
-use Rattle.filter.specs.declared.test.ArgType.{ArgType}
 use Rattle.filter.specs.declared.test.Test.{Test}
 use Rattle.filter.specs.declared.test.Test.TheVariants as tests
 use Rattle.filter.specs.declared.opening.Operand.{Operand}
@@ -16,7 +15,7 @@ use Rattle.filter.specs.declared.operator.Operator.{Operator}
 use Rattle.filter.specs.declared.operator.Operator.TheVariants.{Is}
 use Rattle.filter.specs.declared.reader.Wanted.{Wanted}
 use Rattle.filter.specs.declared.reader.Wanted.TheVariants as wanted
-use Rattle.filter.specs.Tokens.{Lexeme, word, quoted, sign}
+use Rattle.filter.specs.Tokens.{Lexeme, word, sign}
 use Rattle.filter.specs.Words.{opening_of, has_test, type_named}
 use Rattle.filter.specs.Operators.{operator_of, has_operator}
 use Rattle.filter.specs.Values.{value_of}

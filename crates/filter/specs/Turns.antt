@@ -1,5 +1,5 @@
 -- Inner: one turn of the reader, over a blank or a token.
-use Rattle.std.specs.Prelude.{ℕ, ◌+◌, List, Result, Ok, Err, if◌then◌else◌}
+use Rattle.std.specs.Prelude.{ℕ, ◌+◌, List, Result, Ok, if◌then◌else◌}
 use Rattle.filter.specs.declared.error.FaultAt.{FaultAt}
 use Rattle.filter.specs.declared.error.StepError.{StepError}
 use Rattle.filter.specs.declared.error.StepError.TheVariants as steps

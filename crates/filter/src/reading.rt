@@ -1,7 +1,9 @@
 // Reading expressions.
 
-ghost use Rattle.std.specs.Prelude.{◌≡◌, ◌≤◌, ◌<◌, ◌+◌, drop, length, slice_index, IfOk};
+ghost use Rattle.std.specs.Prelude.{◌≡◌, ◌≤◌, ◌<◌, ◌+◌, drop, length, slice_index, Ok, IfOk};
+ghost use Rattle.filter.specs.FilterTree.{FilterTree};
 ghost use Rattle.filter.specs.Filters.{tree_of};
+ghost use Rattle.filter.specs.Grammar.{ReadsAs};
 ghost use Rattle.filter.specs.Readers.{state_of};
 ghost use Rattle.filter.specs.Reading.{Finds, placed, reads, max_len, items_of, filter_at};
 ghost use Rattle.filter.specs.Steps.{start, ended, step};
@@ -93,17 +95,29 @@ fn read_bytes(alloc: Global, text: &[u8]) -> Result<Filter, FilterError>
     finish(reader, place)
 }
 
+/// The filter of a text.
+fn read_text(alloc: Global, text: &str) -> Result<Filter, FilterError>
+    ensures { Finds tree_of result (filter_at text.now) }
+{
+    if text.len() > MAX_LEN {
+        return Err(FilterError::Fault(FaultAt {
+            fault: Fault::TooLong,
+            place: MAX_LEN,
+        }));
+    }
+    read_bytes(alloc, text.as_bytes())
+}
+
 impl Filter {
     /// Reads an expression.
     pub fn read(alloc: Global, text: &str) -> Result<Filter, FilterError>
-        ensures { Finds tree_of result (filter_at text.now) }
+        // What is read is in the grammar.
+        ensures found { IfOk result (λ filter. ReadsAs text.now (tree_of filter)) }
+        // What is in the grammar is read, unless memory runs out.
+        ensures only { (filter : FilterTree) → ReadsAs text.now filter → Finds tree_of result (Ok filter) }
+        // Which fault it is, and where.
+        ensures exact { Finds tree_of result (filter_at text.now) }
     {
-        if text.len() > MAX_LEN {
-            return Err(FilterError::Fault(FaultAt {
-                fault: Fault::TooLong,
-                place: MAX_LEN,
-            }));
-        }
-        read_bytes(alloc, text.as_bytes())
+        read_text(alloc, text)
     }
 }
