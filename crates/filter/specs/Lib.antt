@@ -16,3 +16,4 @@ pub mod Readers
 pub mod Reading
 pub mod Turns
 pub mod Grammar
+pub mod Weights

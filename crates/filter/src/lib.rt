@@ -21,6 +21,7 @@ mod test;
 mod text;
 mod token;
 mod value;
+mod weight;
 
 pub use error::{Fault, FaultAt, FilterError};
 pub use filter::Filter;
