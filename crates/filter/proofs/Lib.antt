@@ -2,6 +2,7 @@ mod Derived
 mod Digits
 mod Errors
 mod Fronts
+mod Marks
 mod Numbers
 mod PastTurns
 mod SoFar

@@ -17,3 +17,4 @@ pub mod Reading
 pub mod Turns
 pub mod Grammar
 pub mod Weights
+pub mod Printing

@@ -8,7 +8,7 @@ use crate::error::Fault;
 use crate::opening::text_field_named;
 use crate::test::{ArgType, Field, Test, TextField};
 
-fn field_of_text(field: TextField) -> Field
+pub(crate) fn field_of_text(field: TextField) -> Field
     ensures { result ≡ field_of_text field }
 {
     match field {

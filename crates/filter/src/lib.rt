@@ -4,6 +4,7 @@
 
 mod arg_word;
 mod error;
+mod escaping;
 mod filter;
 mod has;
 mod integer;
@@ -13,15 +14,18 @@ mod lexis;
 mod nesting;
 mod opening;
 mod operator;
+mod printing;
 mod quoted;
 mod reader;
 mod reading;
 mod takes;
 mod test;
+mod test_text;
 mod text;
 mod token;
 mod value;
 mod weight;
+mod words;
 
 pub use error::{Fault, FaultAt, FilterError};
 pub use filter::Filter;
