@@ -1,7 +1,10 @@
--- The names of the faults of filter expressions (own).
-use Rattle.std.specs.Prelude.{ℕ, List, codes}
+-- The names of the faults of filter expressions, and what is said of them (own).
+use Rattle.std.specs.Prelude.{ℕ, List, ◌++◌, codes, decimal}
 use Rattle.filter.specs.declared.error.Fault.{Fault}
 use Rattle.filter.specs.declared.error.Fault.TheVariants as faults
+use Rattle.filter.specs.declared.error.FaultAt.{FaultAt}
+use Rattle.filter.specs.declared.error.FilterError.{FilterError}
+use Rattle.filter.specs.declared.error.FilterError.TheVariants as errors
 
 abbrev pub name_of : Fault → List ℕ
 name_of faults.TooLong = codes "TooLong"
@@ -20,3 +23,11 @@ name_of faults.BadValue = codes "BadValue"
 name_of faults.BadType = codes "BadType"
 name_of faults.BadField = codes "BadField"
 name_of faults.NoConnective = codes "NoConnective"
+
+-- the name and the place
+abbrev pub fault_text : FaultAt → List ℕ
+fault_text at = name_of at.fault ++ codes " at " ++ decimal at.place
+
+abbrev pub error_text : FilterError → List ℕ
+error_text (errors.Fault at) = fault_text at
+error_text errors.NoMemory = codes "NoMemory"

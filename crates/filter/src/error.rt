@@ -89,6 +89,21 @@ pub struct FaultAt {
     pub place: usize,
 }
 
+impl fmt::Display for FaultAt {
+    ghost use Rattle.std.specs.Prelude.{Some};
+    ghost use Rattle.filter.specs.Errors.{fault_text};
+
+    ghost output = { λ at. Some (fault_text at) };
+
+    fn fmt<W: fmt::Write>(&self, f: &mut fmt::Formatter<W>) -> fmt::Result {
+        let name = self.fault.name();
+        let place = self.place;
+        write!(f, "{name} at {place}")
+    }
+}
+
+impl Error for FaultAt {}
+
 /// Why a reader can't go on at a token.
 #[derive(Clone, Copy, Debug, PartialEq, Eq)]
 pub(crate) enum StepError {
@@ -132,3 +147,19 @@ pub enum FilterError {
     Fault(FaultAt),
     NoMemory,
 }
+
+impl fmt::Display for FilterError {
+    ghost use Rattle.std.specs.Prelude.{Some};
+    ghost use Rattle.filter.specs.Errors.{error_text};
+
+    ghost output = { λ error. Some (error_text error) };
+
+    fn fmt<W: fmt::Write>(&self, f: &mut fmt::Formatter<W>) -> fmt::Result {
+        match self {
+            FilterError::Fault(at) => write!(f, "{at}"),
+            FilterError::NoMemory => f.write_str("NoMemory"),
+        }
+    }
+}
+
+impl Error for FilterError {}
