@@ -14,7 +14,6 @@ use Rattle.filter.specs.declared.test.Flag.{Flag}
 use Rattle.filter.specs.declared.test.Flag.TheVariants.{NoReplyExpected, NoAutoStart, AllowInteractiveAuthorization}
 use Rattle.filter.specs.declared.test.Field.{Field}
 use Rattle.filter.specs.declared.test.Field.TheVariants as fields
-use Rattle.filter.specs.declared.test.TextField.{TextField}
 use Rattle.filter.specs.declared.test.TextType.{TextType}
 use Rattle.filter.specs.declared.test.TextType.TheVariants as text_types
 use Rattle.filter.specs.declared.test.TextSource.{TextSource}

@@ -1,5 +1,5 @@
 -- What filters weigh: a bound on the instructions of their programs (own).
-use Rattle.std.specs.Prelude.{ℕ, ◌+◌, ◌*◌, Bool, false, not, ◌&&◌, ◌==◌, List, [], ◌∷◌, length, sum_by, if◌then◌else◌}
+use Rattle.std.specs.Prelude.{ℕ, ◌+◌, ◌*◌, Bool, false, not, ◌&&◌, ◌==◌, List, length, sum_by, if◌then◌else◌}
 use Rattle.std.specs.Str.{bytes_eq}
 use Rattle.signature.specs.Name.{bus_name}
 use Rattle.filter.specs.declared.test.Scope.{Scope}
