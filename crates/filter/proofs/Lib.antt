@@ -1,0 +1,10 @@
+mod Derived
+mod Digits
+mod Errors
+mod Fronts
+mod Marks
+mod Numbers
+mod PastTurns
+mod SoFar
+mod Sound
+mod Spelled
