@@ -8,7 +8,7 @@ use crate::limit::Limit;
 use crate::note::{Cause, Note};
 use crate::scratch::Scratch;
 use crate::shared::Server;
-use crate::worker_setup::WorkerSetup;
+use crate::worker_setup::{EVENTS, WorkerSetup};
 use members::{Arrival, BELL, SocketMailbox, WorkerHandle};
 use mio::{Events, Poll, Token};
 use sessions::{BusBrand, StateReader};

@@ -13,7 +13,7 @@ use std::net::Net;
 use std::sync::Arc;
 
 /// How many events one look at the poll gives.
-const EVENTS: usize = 256;
+pub(crate) const EVENTS: usize = 256;
 
 /// What a worker works with, made before its thread is started.
 #[derive(Drop)]
