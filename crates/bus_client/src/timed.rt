@@ -43,10 +43,9 @@ impl<'a, R: Clock> Timed<'a, R> {
         self.link.set_timeouts(None)
     }
 
-    /// From now on it waits for this many seconds in all.
-    pub fn wait_for(&mut self, seconds: u64) -> io::Result<()> {
+    /// From now on it waits for this long in all.
+    pub fn wait_for(&mut self, len: Duration) -> io::Result<()> {
         let since = Instant::now(self.rt)?;
-        let len = Duration::from_secs(seconds);
         self.limit = Some(Limit { since, len });
         Ok(())
     }
