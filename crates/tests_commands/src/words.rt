@@ -31,6 +31,29 @@ fn rules(rt: HostRuntime) {
     expect_rules(&rt, alloc, &["session", "--hex", "--", "-x"], &["-x"]);
     expect_rules(&rt, alloc, &["session", "-"], &["-"]);
     expect_rules(&rt, alloc, &["session", "--monitor"], &[]);
+    expect_rules(&rt, alloc, &["session", "--calls"], &[]);
+    expect_rules(&rt, alloc, &["session", "--summary"], &[]);
+    expect_rules(&rt, alloc, &["session", "a", "--why"], &["a"]);
+}
+
+#[test]
+fn calls(rt: HostRuntime) {
+    let words = [
+        "session",
+        "--calls",
+        "--slow",
+        "100",
+        "--patience",
+        "5",
+        "--clock",
+        "--full",
+    ];
+    let options = options_of(&rt, rt.alloc(), &words);
+    assert!(rt; options.has(Key::Calls));
+    assert_eq!(rt; options.number_of(Key::Slow), Some(100));
+    assert_eq!(rt; options.number_of(Key::Patience), Some(5));
+    assert!(rt; options.has(Key::Clock));
+    assert!(rt; options.has(Key::Full));
 }
 
 #[test]
@@ -85,6 +108,17 @@ fn no_command(rt: HostRuntime) {
         "session --rules f --json",
         "--read f --monitor",
         "--read f --seconds 1",
+        "session a --slow 1",
+        "session --patience 1 --monitor",
+        "session --calls --slow 0",
+        "session --calls --json",
+        "session --calls --summary",
+        "session --program p --calls --attach",
+        "session --summary --names",
+        "session a --clock --time",
+        "session a --full --hex",
+        "session a b --why",
+        "session a --why --invert",
         "session a --other",
     ] {
         let words: Vec<&str> = match line.split(' ').collect(rt.alloc()) {

@@ -209,6 +209,12 @@ pub(crate) static COMMANDS: [CommandHelp; 7] = [
                 text: "Shows the messages that otherwise aren't shown",
             },
             ArgumentHelp {
+                name: "why",
+                form: Form::Flag,
+                is_required: false,
+                text: "Shows the messages that the one rule doesn't match, and which conditions don't hold",
+            },
+            ArgumentHelp {
                 name: "rules",
                 form: Form::Value(Value::Text("FILE")),
                 is_required: false,
@@ -219,6 +225,30 @@ pub(crate) static COMMANDS: [CommandHelp; 7] = [
                 form: Form::Value(Value::Text("NAME")),
                 is_required: false,
                 text: "Says it of the rules that a connection has at the bus, which may want root",
+            },
+            ArgumentHelp {
+                name: "calls",
+                form: Form::Flag,
+                is_required: false,
+                text: "Shows each call with its answer and the time between, and a table of methods at the end",
+            },
+            ArgumentHelp {
+                name: "slow",
+                form: Form::Value(Value::Number),
+                is_required: false,
+                text: "Of these only calls that took longer than N milliseconds",
+            },
+            ArgumentHelp {
+                name: "patience",
+                form: Form::Value(Value::Number),
+                is_required: false,
+                text: "For N seconds a call waits until it is said to have no answer; for 25 if it isn't given",
+            },
+            ArgumentHelp {
+                name: "summary",
+                form: Form::Flag,
+                is_required: false,
+                text: "Shows only a table at the end: who sent what, how many messages, bytes and messages a second",
             },
             ArgumentHelp {
                 name: "hex",
@@ -237,6 +267,18 @@ pub(crate) static COMMANDS: [CommandHelp; 7] = [
                 form: Form::Flag,
                 is_required: false,
                 text: "Writes the time before each message, in seconds since 1970",
+            },
+            ArgumentHelp {
+                name: "clock",
+                form: Form::Flag,
+                is_required: false,
+                text: "Writes the local time of day before each message",
+            },
+            ArgumentHelp {
+                name: "full",
+                form: Form::Flag,
+                is_required: false,
+                text: "Writes arguments whole, also on a terminal, and those of calls",
             },
             ArgumentHelp {
                 name: "names",

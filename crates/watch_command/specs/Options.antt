@@ -1,11 +1,11 @@
 -- Which sayings are a row of `watch`, and what they ask for (own).
-use Rattle.std.specs.Prelude.{ℕ, Bool, not, ◌||◌, ◌&&◌, ◌==◌, nat_lt, nat_le, List, [], ◌∷◌, length, codes, Option, Some, None, if◌then◌else◌}
+use Rattle.std.specs.Prelude.{ℕ, ◌+◌, Bool, not, ◌||◌, ◌&&◌, ◌==◌, nat_lt, nat_le, List, [], ◌∷◌, length, codes, Option, Some, None, if◌then◌else◌}
 use Rattle.std.specs.List.{list_any}
 use Rattle.std.specs.Str.{bytes_eq}
 use Rattle.summary.specs.declared.edition.Edition.{Edition as AnEdition}
 use Rattle.summary.specs.declared.edition.Edition.TheVariants.{One, Two}
 use Rattle.watch_command.specs.declared.words.Key.{Key}
-use Rattle.watch_command.specs.declared.words.Key.TheVariants.{Attach, Count, Edition, Hex, Invert, Json, Monitor, Names, Of, Program, Read, Rules, Seconds, Time, Write}
+use Rattle.watch_command.specs.declared.words.Key.TheVariants.{Attach, Calls, Clock, Count, Edition, Full, Hex, Invert, Json, Monitor, Names, Of, Patience, Program, Read, Rules, Seconds, Slow, Summary, Time, Why, Write}
 use Rattle.watch_command.specs.Sayings.{Saying, is_key, word_in, name_in}
 
 -- whether an option is said
@@ -37,50 +37,72 @@ is_said said key = has key said
 abbrev pub excludes : Key → List Key → List Saying → Bool
 excludes key others said = not (has key said) || not (list_any (is_said said) others)
 
--- if an option is said, a program is
-abbrev pub needs_program : Key → List Saying → Bool
-needs_program key said = not (has key said) || has Program said
+-- if an option is said, another one is
+abbrev pub needs : Key → Key → List Saying → Bool
+needs key other said = not (has key said) || has other said
 
 -- the options that don't go with one that asks the bus to run a program, or with a capture
 abbrev pub fits_source : List Saying → Bool
 fits_source said =
-    needs_program Edition said && needs_program Attach said
-    && excludes Attach (Monitor ∷ Invert ∷ Rules ∷ Of ∷ Read ∷ []) said
+    needs Edition Program said && needs Attach Program said
+    && excludes Attach (Monitor ∷ Invert ∷ Rules ∷ Of ∷ Read ∷ Calls ∷ []) said
     && excludes Read (Monitor ∷ Seconds ∷ Names ∷ Of ∷ []) said
     && excludes Of (Rules ∷ []) said
 
 -- the options that say which messages are shown, or how, don't go with one that has them counted
 abbrev pub excludes_forms : Key → List Saying → Bool
-excludes_forms key said = excludes key (Program ∷ Invert ∷ Time ∷ Hex ∷ Json ∷ Write ∷ Names ∷ []) said
+excludes_forms key said = excludes key (Program ∷ Invert ∷ Time ∷ Clock ∷ Hex ∷ Json ∷ Write ∷ Names ∷ Full ∷ []) said
 
 -- the options that don't go with one that says how messages are written
 abbrev pub fits_form : List Saying → Bool
 fits_form said =
     excludes_forms Rules said
     && excludes_forms Of said
-    && excludes Hex (Json ∷ Write ∷ Time ∷ Names ∷ []) said
-    && excludes Json (Write ∷ Time ∷ Names ∷ []) said
-    && excludes Write (Time ∷ Names ∷ []) said
+    && excludes Summary (Rules ∷ Of ∷ Calls ∷ Hex ∷ Json ∷ Write ∷ Time ∷ Clock ∷ Names ∷ Full ∷ []) said
+    && excludes Hex (Json ∷ Write ∷ Time ∷ Clock ∷ Names ∷ Full ∷ []) said
+    && excludes Json (Write ∷ Time ∷ Clock ∷ Names ∷ Full ∷ []) said
+    && excludes Write (Time ∷ Clock ∷ Names ∷ Full ∷ []) said
+    && excludes Clock (Time ∷ []) said
+
+-- the options that say which calls are shown, and those that don't go with calls
+abbrev pub fits_calls : List Saying → Bool
+fits_calls said =
+    needs Patience Calls said && needs Slow Calls said
+    && excludes Calls (Rules ∷ Of ∷ Hex ∷ Json ∷ Write ∷ []) said
+
+-- messages to others are asked for too
+abbrev pub is_monitor : List Saying → Bool
+is_monitor said = has Monitor said || has Calls said
+
+-- another option than a rule says which messages are wanted
+abbrev pub wants_all : List Saying → Bool
+wants_all said = has Read said || has Program said || has Summary said || is_monitor said
 
 -- how many of the words that are no options aren't rules: the address of a bus
 abbrev pub address_count : List Saying → ℕ
 address_count said = if has Read said then 0 else 1
+
+-- why a rule doesn't hold is said of one rule, and of lines for people
+abbrev pub fits_why : List Saying → Bool
+fits_why said =
+    not (has Why said)
+    || (excludes Why (Program ∷ Invert ∷ Calls ∷ Summary ∷ Rules ∷ Of ∷ Hex ∷ Json ∷ Write ∷ []) said && length (names said) == address_count said + 1)
 
 -- an address where there is no capture, and a rule at least where nothing else says what is wanted; none where something
 -- else says all
 abbrev pub has_names : List Saying → Bool
 has_names said =
     if has Attach said || has Rules said || has Of said then length (names said) == address_count said
-    else if has Read said || has Program said || has Monitor said then nat_le (address_count said) (length (names said))
+    else if wants_all said then nat_le (address_count said) (length (names said))
     else nat_lt (address_count said) (length (names said))
 
 -- the options go together, and there are as many other words as there may be
 abbrev pub fits : List Saying → Bool
-fits said = fits_source said && fits_form said && has_names said
+fits said = fits_source said && fits_form said && fits_calls said && fits_why said && has_names said
 
 -- whether there is an option whose word has to be a number or an edition
 abbrev pub has_value : List Saying → Bool
-has_value said = has Count said || has Seconds said || has Edition said
+has_value said = has Count said || has Seconds said || has Patience said || has Slow said || has Edition said
 
 -- the edition that a word says
 abbrev pub edition_of : List ℕ → Option AnEdition

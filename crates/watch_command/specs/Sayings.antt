@@ -5,7 +5,7 @@ use Rattle.std.specs.List.{list_any}
 use Rattle.std.specs.Option.{option_map}
 use Rattle.std.specs.Str.{bytes_eq}
 use Rattle.watch_command.specs.declared.words.Key.{Key}
-use Rattle.watch_command.specs.declared.words.Key.TheVariants.{Attach, Count, Edition, Hex, Invert, Json, Monitor, Names, Of, Program, Read, Rules, Seconds, Time, Write}
+use Rattle.watch_command.specs.declared.words.Key.TheVariants.{Attach, Calls, Clock, Count, Edition, Full, Hex, Invert, Json, Monitor, Names, Of, Patience, Program, Read, Rules, Seconds, Slow, Summary, Time, Why, Write}
 use Rattle.watch_command.specs.declared.words.Word.{Word}
 use Rattle.watch_command.specs.declared.words.Word.TheVariants as of_word
 use Rattle.watch_command.specs.declared.words.Awaited.{Awaited}
@@ -15,20 +15,27 @@ use Rattle.watch_command.specs.declared.words.Step.{Step}
 -- an option's number, by which options are told apart
 abbrev pub key_number : Key → ℕ
 key_number Attach = 1
-key_number Count = 2
-key_number Edition = 3
-key_number Hex = 4
-key_number Invert = 5
-key_number Json = 6
-key_number Monitor = 7
-key_number Names = 8
-key_number Of = 9
-key_number Program = 10
-key_number Read = 11
-key_number Rules = 12
-key_number Seconds = 13
-key_number Time = 14
-key_number Write = 15
+key_number Calls = 2
+key_number Clock = 3
+key_number Count = 4
+key_number Edition = 5
+key_number Full = 6
+key_number Hex = 7
+key_number Invert = 8
+key_number Json = 9
+key_number Monitor = 10
+key_number Names = 11
+key_number Of = 12
+key_number Patience = 13
+key_number Program = 14
+key_number Read = 15
+key_number Rules = 16
+key_number Seconds = 17
+key_number Slow = 18
+key_number Summary = 19
+key_number Time = 20
+key_number Why = 21
+key_number Write = 22
 
 -- whether two options are the same
 abbrev pub key_eq : Key → Key → Bool
@@ -44,19 +51,26 @@ pub data Saying : Type 0 where
 abbrev pub options : List (List ℕ × Key)
 options =
     (codes "--attach", Attach) ∷
+    (codes "--calls", Calls) ∷
+    (codes "--clock", Clock) ∷
     (codes "--count", Count) ∷
     (codes "--edition", Edition) ∷
+    (codes "--full", Full) ∷
     (codes "--hex", Hex) ∷
     (codes "--invert", Invert) ∷
     (codes "--json", Json) ∷
     (codes "--monitor", Monitor) ∷
     (codes "--names", Names) ∷
     (codes "--of", Of) ∷
+    (codes "--patience", Patience) ∷
     (codes "--program", Program) ∷
     (codes "--read", Read) ∷
     (codes "--rules", Rules) ∷
     (codes "--seconds", Seconds) ∷
+    (codes "--slow", Slow) ∷
+    (codes "--summary", Summary) ∷
     (codes "--time", Time) ∷
+    (codes "--why", Why) ∷
     (codes "--write", Write) ∷
     []
 
@@ -74,10 +88,12 @@ abbrev pub takes_word : Key → Bool
 takes_word Count = true
 takes_word Edition = true
 takes_word Of = true
+takes_word Patience = true
 takes_word Program = true
 takes_word Read = true
 takes_word Rules = true
 takes_word Seconds = true
+takes_word Slow = true
 takes_word Write = true
 takes_word _ = false
 

@@ -36,7 +36,7 @@ pub(crate) fn ask<S: Read + Write + Drop>(
         client.add_match(rule.as_str())?;
     }
     let owners = known_owners(alloc, client, options, plan)?;
-    if options.has(Key::Monitor) {
+    if options.is_monitor() {
         become_monitor(alloc, client, plan, &changes)?;
     } else {
         add_rules(client, plan)?;
@@ -58,7 +58,7 @@ fn owner_rules(
     plan: &Plan<'_>,
 ) -> Result<Vec<String>, Fault> {
     let mut rules = Vec::new(alloc);
-    if options.has(Key::Names) {
+    if options.wants_names() {
         rules.push(String::from_str(alloc, OWNER_CHANGES)?)?;
     } else {
         for name in plan.sender_names(alloc)? {
@@ -81,7 +81,7 @@ fn known_owners<S: Read + Write + Drop>(
     plan: &Plan<'_>,
 ) -> Result<Owners, Fault> {
     let mut owners = Owners::new(alloc);
-    if options.has(Key::Names) {
+    if options.wants_names() {
         for name in client.names()? {
             if !name.as_str().starts_with(":") && name.as_str() != BUS_NAME {
                 put_owner(alloc, client, &mut owners, name.as_str())?;

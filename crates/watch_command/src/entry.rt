@@ -1,10 +1,11 @@
 // The command.
 
 use crate::asking::ask;
+use crate::calls::Calls;
 use crate::connection_rules::connection_rules;
 use crate::counts::Counts;
 use crate::error::Fault;
-use crate::form::Form;
+use crate::form::{Form, TextForm};
 use crate::live::show_messages;
 use crate::options::Options;
 use crate::owners::Owners;
@@ -12,9 +13,12 @@ use crate::plan::Plan;
 use crate::reading::show_capture;
 use crate::reasons::explain;
 use crate::selection::Selection;
+use crate::senders::Senders;
 use crate::sink::Sink;
-use crate::style::{Device, Style};
+use crate::stamp::Stamp;
+use crate::style::{Device, Style, columns};
 use crate::words::Key;
+use crate::zone::Zone;
 use bus_client::{Address, Client, Timed, addresses_of, connect};
 use command_line::{Files, Output, Stream, Writer, text_for};
 use std::alloc::Global;
@@ -116,7 +120,8 @@ where
     let owners = ask(rt.alloc(), &mut client, options, &plan)?;
     let sink = open_sink(rt, options, form, &mut plan, out)?;
     let count = options.number_of(Key::Count);
-    let mut selection = Selection::new(sink, err, &plan.filter, owners, count);
+    let why = options.has(Key::Why);
+    let mut selection = Selection::new(sink, err, &plan.filter, owners, count, why);
     selection.begin()?;
     let shown = show_messages(
         rt,
@@ -146,7 +151,9 @@ where
     let mut plan = Plan::read(alloc, options, files)?;
     let sink = open_sink(rt, options, form, &mut plan, out)?;
     let count = options.number_of(Key::Count);
-    let mut selection = Selection::new(sink, err, &plan.filter, Owners::new(alloc), count);
+    let why = options.has(Key::Why);
+    let owners = Owners::new(alloc);
+    let mut selection = Selection::new(sink, err, &plan.filter, owners, count, why);
     selection.begin()?;
     let shown = if file == "-" {
         show_capture(alloc, &mut rt.reader(), &mut selection)
@@ -174,6 +181,17 @@ where
         let rules = std::mem::replace(&mut plan.counted, Vec::new(rt.alloc()));
         return Ok(Sink::Counts(out, Counts { rules, untaken: 0 }));
     }
+    if options.has(Key::Calls)
+        && let Form::Text(form) = form
+    {
+        let patience = options.number_of(Key::Patience);
+        let slow = options.number_of(Key::Slow);
+        let calls = Calls::new(rt.alloc(), form, patience, slow)?;
+        return Ok(Sink::Calls(out, calls));
+    }
+    if options.has(Key::Summary) {
+        return Ok(Sink::Senders(out, Senders::new(rt.alloc())));
+    }
     match options.text_of(Key::Write) {
         None => Ok(Sink::Lines(out, form)),
         Some("-") => Ok(Sink::Pcap(out)),
@@ -185,17 +203,47 @@ where
 }
 
 /// How messages are lines.
-fn form_of<R: Env + AllocGlobal>(rt: &R, device: Device, options: &Options<'_>) -> Form {
+fn form_of<R: Env + AllocGlobal + FileSystem>(
+    rt: &R,
+    device: Device,
+    options: &Options<'_>,
+) -> Form {
     if options.has(Key::Hex) {
         Form::Hex
     } else if options.has(Key::Json) {
         Form::Json
     } else {
-        Form::Text {
-            has_time: options.has(Key::Time),
-            has_names: options.has(Key::Names),
-            style: Style::of(rt, device),
-        }
+        Form::Text(text_form(rt, device, options))
+    }
+}
+
+/// How messages and calls are lines for people.
+fn text_form<R: Env + AllocGlobal + FileSystem>(
+    rt: &R,
+    device: Device,
+    options: &Options<'_>,
+) -> TextForm {
+    let is_full = options.has(Key::Full);
+    TextForm {
+        stamp: stamp_by(rt, options),
+        has_names: options.has(Key::Names),
+        style: Style::of(rt, device),
+        width: match device {
+            Device::Terminal if !is_full => Some(columns(rt)),
+            Device::Terminal | Device::Other => None,
+        },
+        is_full,
+    }
+}
+
+/// What stands before lines.
+fn stamp_by<R: Env + AllocGlobal + FileSystem>(rt: &R, options: &Options<'_>) -> Stamp {
+    if options.has(Key::Time) {
+        Stamp::Seconds
+    } else if options.has(Key::Clock) {
+        Stamp::Clock(Zone::read(rt))
+    } else {
+        Stamp::Nothing
     }
 }
 

@@ -11,6 +11,8 @@ use bpf_machine::run;
 use bpf_verify::Verified;
 use match_rule::Rule;
 use message_view::View;
+use rule_reasons::push_reasons;
+use std::alloc::{AllocError, Global};
 use summary::{Edition, Image, Slots};
 
 /// A program, and the edition of its images.
@@ -45,6 +47,21 @@ impl Program {
 }
 
 impl Filter {
+    /// Why the first rule doesn't hold of a message, in lines with a front before each.
+    pub(crate) fn reasons(
+        &self,
+        alloc: Global,
+        view: &View<'_>,
+        owners: &Owners,
+    ) -> Result<String, AllocError> {
+        let mut text = String::new(alloc);
+        if let Some(rule) = self.rules.first() {
+            let owns = is_from_owner(rule.sender_name(), view.sender(), owners);
+            push_reasons(&mut text, "\n    ", rule, view, owns)?;
+        }
+        Ok(text)
+    }
+
     /// Whether a message is shown.
     pub(crate) fn takes(&self, view: &View<'_>, owners: &Owners) -> bool {
         self.selects(view, owners) != self.is_inverted

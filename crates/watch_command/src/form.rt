@@ -1,7 +1,8 @@
 // How a message is a line.
 
+use crate::arguments::fit_arguments;
 use crate::owners::Owners;
-use crate::stamp::stamp_of;
+use crate::stamp::Stamp;
 use crate::style::Style;
 use message_view::View;
 use std::alloc::{AllocError, Global};
@@ -16,16 +17,26 @@ pub(crate) struct Seen<'v, 'm, 'o> {
 }
 
 /// How a message is a line.
-#[derive(Clone, Copy)]
+#[derive(Drop)]
 pub(crate) enum Form {
-    /// What a person reads, with the time in front, with the names of owners, and with colours.
-    Text {
-        has_time: bool,
-        has_names: bool,
-        style: Style,
-    },
+    /// What a person reads.
+    Text(TextForm),
     Hex,
     Json,
+}
+
+/// How a message is a line that a person reads.
+#[derive(Drop)]
+pub(crate) struct TextForm {
+    /// What stands before it.
+    pub(crate) stamp: Stamp,
+    /// Whether a connection has the names that it owns.
+    pub(crate) has_names: bool,
+    pub(crate) style: Style,
+    /// How many bytes of an argument are shown, if not all.
+    pub(crate) width: Option<usize>,
+    /// Whether the arguments of calls are shown whole.
+    pub(crate) is_full: bool,
 }
 
 /// Nanoseconds of a microsecond.
@@ -33,24 +44,38 @@ const MICROSECOND: u64 = 1_000;
 
 impl Form {
     /// The line of a message.
-    pub(crate) fn line(self, alloc: Global, seen: &Seen<'_, '_, '_>) -> Result<Vec<u8>, TextError> {
+    pub(crate) fn line(
+        &self,
+        alloc: Global,
+        seen: &Seen<'_, '_, '_>,
+    ) -> Result<Vec<u8>, TextError> {
         match self {
             Form::Hex => Ok(hex_line(alloc, seen.view)?),
             Form::Json => json_line(alloc, seen.view, seen.time / MICROSECOND),
-            Form::Text {
-                has_time,
-                has_names,
-                style,
-            } => {
-                let mut line = Vec::new(alloc);
-                if has_time {
-                    style.put_time(&mut line, &stamp_of(alloc, seen.time)?)?;
-                }
-                let text = text_line(alloc, seen, has_names)?;
-                style.put_line(&mut line, seen.view.kind(), &text)?;
-                Ok(line)
-            }
+            Form::Text(form) => form.line(alloc, seen),
         }
+    }
+}
+
+impl TextForm {
+    fn line(&self, alloc: Global, seen: &Seen<'_, '_, '_>) -> Result<Vec<u8>, TextError> {
+        let mut line = self.line_start(alloc, seen.time)?;
+        let mut text = text_line(alloc, seen, self.has_names)?;
+        if let Some(width) = self.width {
+            fit_arguments(alloc, &mut text, seen.view, width)?;
+        }
+        self.style.put_line(&mut line, seen.view.kind(), &text)?;
+        Ok(line)
+    }
+
+    /// What stands before the line of a message that came at a time.
+    pub(crate) fn line_start(&self, alloc: Global, time: u64) -> Result<Vec<u8>, AllocError> {
+        let mut line = Vec::new(alloc);
+        let stamp = self.stamp.text(alloc, time)?;
+        if !stamp.is_empty() {
+            self.style.put_time(&mut line, &stamp)?;
+        }
+        Ok(line)
     }
 }
 

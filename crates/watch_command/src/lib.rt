@@ -2,7 +2,10 @@
 //! The program above calls `watch` with the words after the command's name.
 #![tactic(auto)]
 
+mod arguments;
 mod asking;
+mod call_text;
+mod calls;
 mod connection_rules;
 mod counts;
 mod entry;
@@ -10,17 +13,20 @@ mod error;
 mod filter;
 mod form;
 mod live;
+mod option_values;
 mod options;
 mod owners;
 mod plan;
 mod reading;
 mod reasons;
 mod selection;
+mod senders;
 mod shown_text;
 mod sink;
 mod stamp;
 mod style;
 mod words;
+mod zone;
 
 pub use entry::watch;
 pub use error::Fault;

@@ -1,10 +1,10 @@
 // What the words of the command ask for.
 
-ghost use Rattle.std.specs.Prelude.{◌≡◌, ◌<◌, ◌++◌, ◌∷◌, [], IfOk, IfSome, OnOk, length, option_map, slice_get};
-ghost use Rattle.std.specs.Str.Parse.{digits_value};
+ghost use Rattle.std.specs.Prelude.{◌≡◌, ◌++◌, ◌∷◌, [], IfOk, OnOk, length, option_map, slice_get};
 ghost use Rattle.watch_command.specs.Sayings.{saying_of, sayings_of, texts};
-ghost use Rattle.watch_command.specs.Options.{word_of, names, edition_of};
+ghost use Rattle.watch_command.specs.Options.{word_of, names};
 
+use crate::option_values::{edition_of, number};
 use crate::words::{Key, Word, has, read_words};
 use std::alloc::{AllocError, Global};
 use std::marker::Model;
@@ -31,7 +31,7 @@ impl<'a> Options<'a> {
     ghost use Rattle.std.specs.Str.Parse.{digits_value};
     ghost use Rattle.watch_command.specs.declared.words.Key.TheVariants.{Read};
     ghost use Rattle.watch_command.specs.Sayings.{Saying, sayings_in, texts};
-    ghost use Rattle.watch_command.specs.Options.{has, is_said, word_of, names, excludes, needs_program, fits_source, fits_form, excludes_forms, address_count, has_names, fits, has_value, edition_of};
+    ghost use Rattle.watch_command.specs.Options.{has, is_said, word_of, names, excludes, needs, fits_source, fits_form, fits_calls, fits_why, is_monitor, wants_all, excludes_forms, address_count, has_names, fits, has_value, edition_of};
 
     /// What some words ask for, if they are a row of the command line: `ADDRESS [RULE ..]` or `--read FILE [RULE ..]`, and
     /// options that go together.
@@ -64,6 +64,18 @@ impl<'a> Options<'a> {
         ensures { option_map (λ text. text.now) result ≡ word_of key self.now }
     {
         word_of(&self.words, key)
+    }
+
+    /// Whether messages to others are asked for too.
+    pub(crate) fn is_monitor(&self) -> bool
+        ensures { result ≡ is_monitor self.now }
+    {
+        self.has(Key::Monitor) || self.has(Key::Calls)
+    }
+
+    /// Whether all names and their owners are asked for.
+    pub(crate) fn wants_names(&self) -> bool {
+        self.has(Key::Names) || self.has(Key::Summary)
     }
 
     /// The number of an option, if it is there and says one above 0.
@@ -120,18 +132,29 @@ impl<'a> Options<'a> {
     fn fits(&self) -> bool
         ensures { result ≡ fits self.now }
     {
-        self.fits_source() && self.fits_form() && self.has_names()
+        self.fits_source()
+            && self.fits_form()
+            && self.fits_calls()
+            && self.fits_why()
+            && self.has_names()
     }
 
     /// Whether the options go with a program that the bus runs, and with a capture.
     fn fits_source(&self) -> bool
         ensures { result ≡ fits_source self.now }
     {
-        self.needs_program(Key::Edition)
-            && self.needs_program(Key::Attach)
+        self.needs(Key::Edition, Key::Program)
+            && self.needs(Key::Attach, Key::Program)
             && self.excludes(
                 Key::Attach,
-                &[Key::Monitor, Key::Invert, Key::Rules, Key::Of, Key::Read],
+                &[
+                    Key::Monitor,
+                    Key::Invert,
+                    Key::Rules,
+                    Key::Of,
+                    Key::Read,
+                    Key::Calls,
+                ],
             )
             && self.excludes(
                 Key::Read,
@@ -146,9 +169,70 @@ impl<'a> Options<'a> {
     {
         self.excludes_forms(Key::Rules)
             && self.excludes_forms(Key::Of)
-            && self.excludes(Key::Hex, &[Key::Json, Key::Write, Key::Time, Key::Names])
-            && self.excludes(Key::Json, &[Key::Write, Key::Time, Key::Names])
-            && self.excludes(Key::Write, &[Key::Time, Key::Names])
+            && self.excludes(
+                Key::Summary,
+                &[
+                    Key::Rules,
+                    Key::Of,
+                    Key::Calls,
+                    Key::Hex,
+                    Key::Json,
+                    Key::Write,
+                    Key::Time,
+                    Key::Clock,
+                    Key::Names,
+                    Key::Full,
+                ],
+            )
+            && self.excludes(
+                Key::Hex,
+                &[
+                    Key::Json,
+                    Key::Write,
+                    Key::Time,
+                    Key::Clock,
+                    Key::Names,
+                    Key::Full,
+                ],
+            )
+            && self.excludes(
+                Key::Json,
+                &[Key::Write, Key::Time, Key::Clock, Key::Names, Key::Full],
+            )
+            && self.excludes(Key::Write, &[Key::Time, Key::Clock, Key::Names, Key::Full])
+            && self.excludes(Key::Clock, &[Key::Time])
+    }
+
+    /// Whether the options go with those that say which calls are shown.
+    fn fits_calls(&self) -> bool
+        ensures { result ≡ fits_calls self.now }
+    {
+        self.needs(Key::Patience, Key::Calls)
+            && self.needs(Key::Slow, Key::Calls)
+            && self.excludes(
+                Key::Calls,
+                &[Key::Rules, Key::Of, Key::Hex, Key::Json, Key::Write],
+            )
+    }
+
+    /// Whether the options, and the number of rules, go with one that has it said why a rule doesn't hold.
+    fn fits_why(&self) -> bool
+        ensures { result ≡ fits_why self.now }
+    {
+        let others = [
+            Key::Program,
+            Key::Invert,
+            Key::Calls,
+            Key::Summary,
+            Key::Rules,
+            Key::Of,
+            Key::Hex,
+            Key::Json,
+            Key::Write,
+        ];
+        !self.has(Key::Why)
+            || self.excludes(Key::Why, &others)
+                && name_count(&self.words) == self.address_count() + 1
     }
 
     /// Whether no option says which messages are shown, or how, where they are counted.
@@ -161,19 +245,21 @@ impl<'a> Options<'a> {
                 Key::Program,
                 Key::Invert,
                 Key::Time,
+                Key::Clock,
                 Key::Hex,
                 Key::Json,
                 Key::Write,
                 Key::Names,
+                Key::Full,
             ],
         )
     }
 
-    /// Whether there is a program where an option is.
-    fn needs_program(&self, key: Key) -> bool
-        ensures { result ≡ needs_program key self.now }
+    /// Whether another option is there where an option is.
+    fn needs(&self, key: Key, other: Key) -> bool
+        ensures { result ≡ needs key other self.now }
     {
-        !self.has(key) || self.has(Key::Program)
+        !self.has(key) || self.has(other)
     }
 
     /// Whether no other option is there where an option is.
@@ -199,7 +285,11 @@ impl<'a> Options<'a> {
     fn has_values(&self) -> bool
         ensures { result ≡ false → has_value self.now ≡ true }
     {
-        self.is_number(Key::Count) && self.is_number(Key::Seconds) && self.is_edition()
+        self.is_number(Key::Count)
+            && self.is_number(Key::Seconds)
+            && self.is_number(Key::Patience)
+            && self.is_number(Key::Slow)
+            && self.is_edition()
     }
 
     /// Whether the word of an option is a number above 0, where it is there.
@@ -222,6 +312,13 @@ impl<'a> Options<'a> {
         }
     }
 
+    /// Whether another option than a rule says which messages are wanted.
+    fn wants_all(&self) -> bool
+        ensures { result ≡ wants_all self.now }
+    {
+        self.has(Key::Read) || self.has(Key::Program) || self.has(Key::Summary) || self.is_monitor()
+    }
+
     /// Whether there are as many words that are no options as there may be: an address where there is no capture, and a
     /// rule at least where nothing else says what is wanted.
     fn has_names(&self) -> bool
@@ -231,7 +328,7 @@ impl<'a> Options<'a> {
         let count = name_count(&self.words);
         if self.has(Key::Attach) || self.has(Key::Rules) || self.has(Key::Of) {
             count == others
-        } else if self.has(Key::Read) || self.has(Key::Program) || self.has(Key::Monitor) {
+        } else if self.wants_all() {
             count >= others
         } else {
             count > others
@@ -295,29 +392,4 @@ fn name_count(words: &[Word<'_>]) -> usize
         }
     }
     count
-}
-
-/// A number above 0 in decimal digits.
-fn number(word: &str) -> Option<u64>
-    ensures { IfSome result (λ n. (n ≡ digits_value 10 word.now) × (0 < n)) }
-{
-    let first = *word.as_bytes().first()?;
-    if !first.is_ascii_digit() {
-        return None;
-    }
-    match word.parse::<u64>() {
-        Ok(0) | Err(_) => None,
-        Ok(number) => Some(number),
-    }
-}
-
-/// The edition that a word says.
-fn edition_of(word: &str) -> Option<Edition>
-    ensures { result ≡ edition_of word.now }
-{
-    match word {
-        "1" => Some(Edition::One),
-        "2" => Some(Edition::Two),
-        _ => None,
-    }
 }

@@ -14,8 +14,14 @@ use bpf_text::assemble_bytes;
 use bpf_verify::verify;
 use command_line::Files;
 use match_rule::{Rule, RuleError};
-use std::alloc::Global;
+use std::alloc::{AllocError, Global};
 use summary::Edition;
+
+/// The rule of all calls.
+const CALLS: &str = "type='method_call'";
+
+/// The rules of all answers.
+const ANSWERS: [&str; 2] = ["type='method_return'", "type='error'"];
 
 /// What the options come to.
 #[derive(Drop)]
@@ -36,8 +42,8 @@ impl<'a> Plan<'a> {
         options: &Options<'a>,
         files: &mut F,
     ) -> Result<Plan<'a>, Fault> {
-        let is_monitor = options.has(Key::Monitor);
-        let is_inverted = options.has(Key::Invert);
+        let is_monitor = options.is_monitor();
+        let is_inverted = options.has(Key::Invert) || options.has(Key::Why);
         let mut rules = Vec::new(alloc);
         let mut asked = Vec::new(alloc);
         for text in options.rules(alloc)? {
@@ -45,6 +51,9 @@ impl<'a> Plan<'a> {
             if !is_inverted {
                 asked.push(text)?;
             }
+        }
+        if options.has(Key::Calls) {
+            put_rules_of_calls(&mut asked)?;
         }
         let counted = match options.text_of(Key::Rules) {
             Some(file) => read_rules(alloc, file, is_monitor, files)?,
@@ -89,6 +98,17 @@ impl<'a> Plan<'a> {
         }
         Ok(names)
     }
+}
+
+/// Adds the rules of answers to those of calls, or of all calls where there are none.
+fn put_rules_of_calls(asked: &mut Vec<&str>) -> Result<(), AllocError> {
+    if asked.is_empty() {
+        asked.push(CALLS)?;
+    }
+    for rule in ANSWERS {
+        asked.push(rule)?;
+    }
+    Ok(())
 }
 
 /// The rule of a text, which has to be one.

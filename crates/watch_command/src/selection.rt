@@ -17,6 +17,8 @@ pub(crate) struct Selection<'o, 'e, 'f, O, F, E> {
     err: &'e mut Output<E>,
     filter: &'f Filter,
     owners: Owners,
+    /// Whether it is said why the rule doesn't hold of a message.
+    tells_why: bool,
     /// How many messages may still be shown.
     left: u64,
     /// The number of the packet before.
@@ -32,6 +34,7 @@ impl<'o, 'e, 'f, O, F: Drop, E> Drop for Selection<'o, 'e, 'f, O, F, E> {
             err: _,
             filter: _,
             owners: _,
+            tells_why: _,
             left: _,
             number: _,
             passed_over: _,
@@ -47,12 +50,14 @@ impl<'o, 'e, 'f, O: Writer, F: Writer, E: Writer> Selection<'o, 'e, 'f, O, F, E>
         filter: &'f Filter,
         owners: Owners,
         count: Option<u64>,
+        tells_why: bool,
     ) -> Selection<'o, 'e, 'f, O, F, E> {
         Selection {
             sink,
             err,
             filter,
             owners,
+            tells_why,
             left: count.unwrap_or(u64::MAX),
             number: 0,
             passed_over: 0,
@@ -67,7 +72,7 @@ impl<'o, 'e, 'f, O: Writer, F: Writer, E: Writer> Selection<'o, 'e, 'f, O, F, E>
     /// Says what stands after all messages, and how many packets of other link types were passed over.
     pub(crate) fn end(&mut self, alloc: Global) -> Result<(), Fault> {
         self.note_passed_over(alloc)?;
-        self.sink.end(alloc)
+        self.sink.end(alloc, self.err)
     }
 
     /// Whether as many messages were shown as are wanted.
@@ -106,13 +111,31 @@ impl<'o, 'e, 'f, O: Writer, F: Writer, E: Writer> Selection<'o, 'e, 'f, O, F, E>
         self.show(alloc, time, view)
     }
 
+    /// Whether something is to be said when time goes by and no message comes.
+    pub(crate) fn is_waiting(&self) -> bool {
+        self.sink.is_waiting()
+    }
+
+    /// Says what is to be said at a time, in nanoseconds since 1970.
+    pub(crate) fn tell_late(&mut self, alloc: Global, now: u64) -> Result<(), Fault> {
+        let shown = self.sink.tell_late(alloc, now)?;
+        self.left = self.left.saturating_sub(shown);
+        Ok(())
+    }
+
     fn show(&mut self, alloc: Global, time: u64, view: &View<'_>) -> Result<(), Fault> {
+        self.tell_late(alloc, time)?;
         let owners = &self.owners;
-        if !self.filter.takes(view, owners) {
+        if !self.sink.takes_any(view) && !self.filter.takes(view, owners) {
             return Ok(());
         }
-        self.left = self.left.saturating_sub(1);
-        self.sink.take(alloc, &Seen { view, time, owners })
+        let shown = self.sink.take(alloc, &Seen { view, time, owners })?;
+        if self.tells_why {
+            let reasons = self.filter.reasons(alloc, view, owners)?;
+            self.sink.put_reasons(alloc, reasons.as_str())?;
+        }
+        self.left = self.left.saturating_sub(shown);
+        Ok(())
     }
 
     fn note_cut(&mut self, alloc: Global) -> Result<(), Fault> {

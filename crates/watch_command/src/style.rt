@@ -118,6 +118,20 @@ impl Style {
     }
 }
 
+/// How many columns a terminal has, where the environment doesn't say it.
+const COLUMNS: usize = 80;
+
+/// The columns of the terminal: those of the variable COLUMNS, if it is a number of two digits or more.
+pub(crate) fn columns<R: Env + AllocGlobal>(rt: &R) -> usize {
+    match variable(rt, "COLUMNS") {
+        Ok(Some(text)) => match text.as_str().parse::<usize>() {
+            Ok(columns) if columns >= 10 => columns,
+            _ => COLUMNS,
+        },
+        _ => COLUMNS,
+    }
+}
+
 /// A variable's text, if it is there.
 fn variable<R: Env + AllocGlobal>(rt: &R, name: &str) -> Result<Option<String>, VarError> {
     match env::var(rt, name) {

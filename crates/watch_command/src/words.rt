@@ -11,10 +11,16 @@ use std::alloc::{AllocError, Global};
 pub enum Key {
     /// `--attach`: the bus runs the program.
     Attach,
+    /// `--calls`: each call with its answer, and the time between.
+    Calls,
+    /// `--clock`: the local time of day, in front of a line.
+    Clock,
     /// `--count N`: ends after N messages.
     Count,
     /// `--edition 1|2`: the edition of images that the program is for.
     Edition,
+    /// `--full`: arguments whole, where they would be cut.
+    Full,
     /// `--hex`: messages as hexadecimal digits.
     Hex,
     /// `--invert`: the messages that otherwise aren't shown.
@@ -27,6 +33,8 @@ pub enum Key {
     Names,
     /// `--of NAME`: how many messages each rule of a connection takes.
     Of,
+    /// `--patience N`: how long a call may wait for its answer until that is said.
+    Patience,
     /// `--program FILE`: the messages that a program accepts.
     Program,
     /// `--read FILE`: a capture in place of a bus.
@@ -35,8 +43,14 @@ pub enum Key {
     Rules,
     /// `--seconds N`: ends after N seconds.
     Seconds,
+    /// `--slow N`: the calls alone that took longer.
+    Slow,
+    /// `--summary`: who sends what, and how much.
+    Summary,
     /// `--time`: when a message came, in front of its line.
     Time,
+    /// `--why`: why the one rule doesn't hold of the messages that it doesn't take.
+    Why,
     /// `--write FILE`: a capture in place of lines.
     Write,
 }
@@ -71,21 +85,28 @@ struct Step<'a> {
 }
 
 /// The words of the options.
-const OPTIONS: [(&[u8], Key); 15] = [
+const OPTIONS: [(&[u8], Key); 22] = [
     (b"--attach", Key::Attach),
+    (b"--calls", Key::Calls),
+    (b"--clock", Key::Clock),
     (b"--count", Key::Count),
     (b"--edition", Key::Edition),
+    (b"--full", Key::Full),
     (b"--hex", Key::Hex),
     (b"--invert", Key::Invert),
     (b"--json", Key::Json),
     (b"--monitor", Key::Monitor),
     (b"--names", Key::Names),
     (b"--of", Key::Of),
+    (b"--patience", Key::Patience),
     (b"--program", Key::Program),
     (b"--read", Key::Read),
     (b"--rules", Key::Rules),
     (b"--seconds", Key::Seconds),
+    (b"--slow", Key::Slow),
+    (b"--summary", Key::Summary),
     (b"--time", Key::Time),
+    (b"--why", Key::Why),
     (b"--write", Key::Write),
 ];
 
@@ -103,20 +124,27 @@ impl Key {
     {
         match self {
             Key::Attach => 1,
-            Key::Count => 2,
-            Key::Edition => 3,
-            Key::Hex => 4,
-            Key::Invert => 5,
-            Key::Json => 6,
-            Key::Monitor => 7,
-            Key::Names => 8,
-            Key::Of => 9,
-            Key::Program => 10,
-            Key::Read => 11,
-            Key::Rules => 12,
-            Key::Seconds => 13,
-            Key::Time => 14,
-            Key::Write => 15,
+            Key::Calls => 2,
+            Key::Clock => 3,
+            Key::Count => 4,
+            Key::Edition => 5,
+            Key::Full => 6,
+            Key::Hex => 7,
+            Key::Invert => 8,
+            Key::Json => 9,
+            Key::Monitor => 10,
+            Key::Names => 11,
+            Key::Of => 12,
+            Key::Patience => 13,
+            Key::Program => 14,
+            Key::Read => 15,
+            Key::Rules => 16,
+            Key::Seconds => 17,
+            Key::Slow => 18,
+            Key::Summary => 19,
+            Key::Time => 20,
+            Key::Why => 21,
+            Key::Write => 22,
         }
     }
 
@@ -135,18 +163,25 @@ impl Key {
             Key::Count
             | Key::Edition
             | Key::Of
+            | Key::Patience
             | Key::Program
             | Key::Read
             | Key::Rules
             | Key::Seconds
+            | Key::Slow
             | Key::Write => true,
             Key::Attach
+            | Key::Calls
+            | Key::Clock
+            | Key::Full
             | Key::Hex
             | Key::Invert
             | Key::Json
             | Key::Monitor
             | Key::Names
-            | Key::Time => false,
+            | Key::Summary
+            | Key::Time
+            | Key::Why => false,
         }
     }
 }
