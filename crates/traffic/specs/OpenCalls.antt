@@ -35,16 +35,16 @@ if_answered sender None = None
 if_answered sender (Some call) = if may_answer (string_bytes call.callee) sender then Some call else None
 
 -- the call that an answer is to, among those that wait: of the caller and the serial that the answer names
-abbrev pub paired : CallText → Calls → Option OpenCall
-paired answer calls = if_answered answer.callee (lookup (is_id answer) calls)
+abbrev pub call_of_answer : CallText → Calls → Option OpenCall
+call_of_answer answer calls = if_answered answer.callee (lookup (is_id answer) calls)
 
 abbrev pub without_found : CallText → Calls → Option OpenCall → Calls
 without_found answer calls None = calls
 without_found answer calls (Some call) = remove_entry (is_id answer) calls
 
 -- the calls that wait after an answer
-abbrev pub without_paired : CallText → Calls → Calls
-without_paired answer calls = without_found answer calls (paired answer calls)
+abbrev pub without_answered : CallText → Calls → Calls
+without_answered answer calls = without_found answer calls (call_of_answer answer calls)
 
 -- a call that was made by a time
 abbrev pub if_older : ℕ → Option (CallId × OpenCall) → Option (CallId × OpenCall)

@@ -34,7 +34,7 @@ put_at place time classes = slice_set classes place (with_one time (slice_index_
 abbrev pub with_time : ℕ → ℕ → TimesInClasses → TimesInClasses
 with_time place time times = record { classes = put_at place time (reaching place times.classes); total = min (times.total + 1) (2 ^ 64 - 1) }
 
--- the longest time of the first class up to which there are so many times
+-- the longest time of the first class up to which there are that many times
 abbrev pub at_rank : ℕ → List Class → ℕ
 at_rank rank [] = 0
 at_rank rank (class ∷ later) = if nat_le rank class.count then class.longest else at_rank (rank - class.count) later

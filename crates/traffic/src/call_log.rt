@@ -52,7 +52,7 @@ impl Model for CallLog {
 impl CallLog {
     ghost use Rattle.std.specs.Prelude.{◌≡◌, ◌-◌, [], length, take, is_some, if◌then◌else◌, IfOk, OnOk};
     ghost use Rattle.lru.specs.LruCache.{lru_cache, put_entries, displaced, last_entry};
-    ghost use Rattle.traffic.specs.OpenCalls.{same_id, paired, without_paired, if_older};
+    ghost use Rattle.traffic.specs.OpenCalls.{same_id, call_of_answer, without_answered, if_older};
     ghost use Rattle.traffic.specs.Roles.{shown_call};
 
     /// No call waits, and `MAX_OPEN_CALLS` may.
@@ -103,8 +103,8 @@ impl CallLog {
         alloc: Global,
         answer: &Exchange<'_>,
     ) -> Result<Option<OpenCall>, AllocError>
-        ensures call { IfOk result (λ found. found ≡ paired (shown_call answer.now) self.old.entries) }
-        ensures others { OnOk result (self.new ≡ lru_cache (without_paired (shown_call answer.now) self.old.entries) self.old.cap) }
+        ensures call { IfOk result (λ found. found ≡ call_of_answer (shown_call answer.now) self.old.entries) }
+        ensures others { OnOk result (self.new ≡ lru_cache (without_answered (shown_call answer.now) self.old.entries) self.old.cap) }
     {
         let id = CallId {
             caller: String::from_str(alloc, answer.caller)?,

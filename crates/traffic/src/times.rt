@@ -142,7 +142,7 @@ fn put(classes: &mut [Class], class: usize, time: u64)
     it.longest = it.longest.max(time);
 }
 
-/// The longest time of the first class up to which there are as many times as this, if there are so many.
+/// The longest time of the first class up to which there are as many times as this; 0 if there are fewer.
 fn at_rank(classes: &[Class], rank: u64) -> u64
     ensures { result ≡ at_rank rank classes.now }
 {
