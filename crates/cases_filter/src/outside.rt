@@ -7,8 +7,8 @@ use message_view::View;
 use std::alloc::Global;
 use summary::Slots;
 
-/// An expression, a message, and the names that its sender owns, or `none`: the weight of the filter and, where there is a
-/// message, whether it holds of that, or the first fault and its place.
+/// An expression, a message, and the names that its sender owns, or `none`: the weight of the filter and whether it holds of
+/// the message, or the first fault and its place.
 pub(crate) struct Outside;
 
 impl Judge for Outside {
@@ -25,9 +25,6 @@ impl Judge for Outside {
 
 fn answer(alloc: Global, filter: &Filter, inputs: &Fields) -> Result<String, LineError> {
     let weight = filter.weight();
-    if inputs.text(1)? == "none" {
-        return Ok(format!(in alloc; "weight {weight}")?);
-    }
     let message = digits(alloc, inputs.text(1)?)?;
     let owned = owned_slots(alloc, filter, inputs.text(2)?)?;
     let view = View::read(message.as_slice()).map_err(|_| LineError::Unreadable)?;

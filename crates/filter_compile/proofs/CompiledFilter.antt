@@ -1,7 +1,7 @@
 -- The lowered program of a filter, from what is known of the program before it was lowered.
 use Rattle.std.proofs.Common.{◌≡◌, ◌↔◌, ℕ, ◌+◌, ◌<◌, ◌≤◌, Bool, true, false, List, [], ◌∷◌, length, refl, sym, subst, inl, inr, ◌++◌, ◌-◌, ap, ◌∙◌, arith}
 use Rattle.std.specs.Prelude.{nat_lt, if◌then◌else◌}
-use Rattle.std.proofs.lemmas.Bool.{and_parts, ltb-false}
+use Rattle.std.proofs.lemmas.Bool.{ltb-false}
 use Rattle.std.proofs.lemmas.List.{length-append, nil_from_length}
 use Rattle.bpf_code.specs.declared.instruction.Ins.{Ins}
 use Rattle.bpf_code.specs.Steps.{Ends, start}
@@ -24,7 +24,7 @@ use Rattle.rule_compile.specs.RuleCode.{verdicts}
 use Rattle.filter.specs.FilterTree.{FilterTree, FilterTrees, test, all, any, negation, no_filters, one_more}
 use Rattle.filter.specs.Weights.{weight_of}
 use Rattle.filter.specs.declared.test.Test.{Test}
-use Rattle.filter_compile.specs.Compiled.{AgreeOn, IsCompiled, is_compiled, are_compiled, all_compiled, IsRefusal}
+use Rattle.filter_compile.specs.Compiled.{AgreeOn, IsCompiled, IsRefusal}
 use Rattle.filter_compile.specs.EachTest.{Each, EachIn, HasBytes}
 use Rattle.filter_compile.specs.FilterCode.{filter_code, from_entry, last_exits, program_code}
 use Rattle.filter_compile.specs.Holds.{FilterHolds}
@@ -40,18 +40,6 @@ use Rattle.filter_compile.proofs.ArgumentValues.{laid_lies}
 use Rattle.message_value.specs.Fits.{max_levels}
 
 -- ---- what is known of each test
-
-mutual
-  each_compiled : (f : FilterTree) → are_compiled f ≡ true → Each (λ t. is_compiled t ≡ true) f
-  each_compiled (test t) is = is
-  each_compiled (all fs) is = among_compiled fs is
-  each_compiled (any fs) is = among_compiled fs is
-  each_compiled (negation f) is = each_compiled f is
-
-  among_compiled : (fs : FilterTrees) → all_compiled fs ≡ true → EachIn (λ t. is_compiled t ≡ true) fs
-  among_compiled no_filters is = tt
-  among_compiled (one_more f fs) is =
-      let both = and_parts (are_compiled f) (all_compiled fs) is in (each_compiled f both.0, among_compiled fs both.1)
 
 mutual
   each_both : (P Q : Test → Type 0) (f : FilterTree) → Each P f → Each Q f → Each (λ t. P t × Q t) f
@@ -108,23 +96,23 @@ Decides f code =
     → AgreeOn f owned slots
     → (v : ℕ) × (n : ℕ) × Ends code (image_bytes Two m slots) v n × ((0 < v) ↔ FilterHolds f m owned)
 
-filter_decides : (f : FilterTree) → are_compiled f ≡ true → Each HasBytes f → weight_of f ≤ 4096 → Decides f (program_code (names_of f) f)
-filter_decides f compiled are light bytes m slots owned valid set agree =
+filter_decides : (f : FilterTree) → Each HasBytes f → weight_of f ≤ 4096 → Decides f (program_code (names_of f) f)
+filter_decides f are light bytes m slots owned valid set agree =
     let names = names_of f in
     let image : List ℕ = image_bytes Two m slots in
     let shows = image_shows Two bytes m slots valid set.size set.bits in
     let named : Slots names owned slots = record { agree = agree; small = λ name is. omega (arith, slot_below names name is, names_below f, light) } in
-    let fits = each_both (λ t. is_compiled t ≡ true) (λ t. HasBytes t × AsksIn names t) f (each_compiled f compiled) (each_both HasBytes (AsksIn names) f are (asks_its_names f)) in
+    let fits = each_both HasBytes (AsksIn names) f are (asks_its_names f) in
     let runs = test_runs image bytes m slots owned names valid shows (image_len m slots set.size) (λ o v laid. laid_lies m slots m.order max_levels o v set.size laid) named in
-    verdict image (FilterHolds f m owned) names f (filter_chooses image names m owned (λ t. (is_compiled t ≡ true) × (HasBytes t × AsksIn names t)) (λ t fits. extends_piece names t fits.0) runs f fits)
+    verdict image (FilterHolds f m owned) names f (filter_chooses image names m owned (λ t. HasBytes t × AsksIn names t) (λ t fits. extends_piece names t) runs f fits)
 
 -- so does the lowered program
-pub compiled : (f : FilterTree) (program : List Ins) → are_compiled f ≡ true → Each HasBytes f → weight_of f ≤ 4096 → IsTarget (program_code (names_of f) f) program → IsCompiled f program
-compiled f program is are light lowered = λ bytes m slots owned v n valid set agree ends.
+pub compiled : (f : FilterTree) (program : List Ins) → Each HasBytes f → weight_of f ≤ 4096 → IsTarget (program_code (names_of f) f) program → IsCompiled f program
+compiled f program are light lowered = λ bytes m slots owned v n valid set agree ends.
     let image = image_bytes Two m slots in
     let code = program_code (names_of f) f in
     let of_code = lowered.only image v n ends in
-    let r = filter_decides f is are light bytes m slots owned valid set agree in
+    let r = filter_decides f are light bytes m slots owned valid set agree in
     let one = ends_one code image v r.0 of_code.0 r.1 start of_code.1 r.2 in
     let Holding : ℕ → Type 0 = λ w. (0 < w) ↔ FilterHolds f m owned in
     subst Holding (sym one.0) r.3

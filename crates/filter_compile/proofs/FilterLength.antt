@@ -1,8 +1,8 @@
 -- A filter's program, with an island of its own for each far target, isn't longer than the filter weighs.
-use Rattle.std.proofs.Common.{◌≡◌, ℕ, zero, suc, ◌+◌, ◌-◌, ◌*◌, ◌/◌, ◌≤◌, Bool, true, false, List, [], ◌∷◌, length, inl, inr, refl, arith}
+use Rattle.std.proofs.Common.{◌≡◌, ℕ, zero, suc, ◌+◌, ◌-◌, ◌*◌, ◌/◌, ◌≤◌, Bool, true, false, List, [], ◌∷◌, length, inl, inr, arith}
 use Rattle.std.specs.Prelude.{◌%◌, ◌^◌, ◌==◌, if◌then◌else◌, nat_lt}
 use Rattle.std.specs.Str.{bytes_eq}
-use Rattle.std.proofs.lemmas.Bool.{false≢true, and_parts, cases_Bool, ltb-true}
+use Rattle.std.proofs.lemmas.Bool.{cases_Bool, ltb-true}
 use Rattle.std.proofs.lemmas.Bool.Decides.{nat_tests}
 use Rattle.std.proofs.lemmas.List.Sums.{sum_by-cons}
 use Rattle.bpf_code.specs.declared.instruction.Ins.{Ins}
@@ -13,8 +13,7 @@ use Rattle.bpf_code.specs.declared.operation.Test.{Test}
 use Rattle.bpf_code.specs.declared.operation.Test.TheVariants.{Equal, Above, AtLeast, SharesBit}
 use Rattle.bpf_code.specs.declared.operation.Width.{Width}
 use Rattle.bpf_code.specs.declared.operation.Width.TheVariants.{Word, Half, Byte}
-use Rattle.bpf_code.specs.Table.{op_of}
-use Rattle.jump_islands.specs.PlainLength.{is_far, count, span, size_of, sizes_of, plain_length}
+use Rattle.jump_islands.specs.PlainLength.{is_far, count, span, sizes_of, plain_length}
 use Rattle.jump_islands.specs.Source.{jump_over}
 use Rattle.rule_compile.specs.Code.{plain, image_word, load_indexed, index_from_a, branch}
 use Rattle.match_rule.specs.Bytes.{ends_with}
@@ -38,8 +37,8 @@ use Rattle.filter.specs.declared.test.TextSource.TheVariants as texts
 use Rattle.filter.specs.FilterTree.{FilterTree, FilterTrees, test as one_test, all, any, negation, no_filters, one_more}
 use Rattle.filter.specs.Weights.{asks_owner, text_weight, slashes, scope_weight, arg_weight, test_weight, tests_weight, sum_weight, weight_of}
 use Rattle.filter_compile.specs.declared.exits.Exits.{Exits}
-use Rattle.filter_compile.specs.Compiled.{is_compiled, are_compiled, all_compiled}
-use Rattle.filter_compile.specs.FilterCode.{Entered, filter_code, all_code, any_code, from_entry, last_exits, program_code}
+use Rattle.filter_compile.specs.Entered.{Entered}
+use Rattle.filter_compile.specs.FilterCode.{filter_code, all_code, any_code, from_entry, last_exits, program_code}
 use Rattle.filter_compile.specs.Names.{slot_in}
 use Rattle.filter_compile.specs.Pieces.{Piece, turned, holds_next, fails_next, both, fork, word_test, indexed_test, has_len, from_start, index_back, from_back, unit_len, unit_number, same_unit, same_units, same_by, same_bytes, len_then, front, ends, end_or, bytes_before, in_namespace, part_test, inner_part, follow_parts, is_nested}
 use Rattle.match_key.specs.ArgNumber.{number_of_arg}
@@ -47,25 +46,12 @@ use Rattle.match_key.specs.Kinds.{kind_meant}
 use Rattle.message_view.specs.Header.{kind_byte}
 use Rattle.summary.specs.Layout.{kind_place, text_place, argument_place, ownership_place}
 use Rattle.filter_compile.specs.Holds.{flag_bit, type_code, text_code}
-use Rattle.filter_compile.specs.TestCode.{view_field, field_place, exits_for, truth_word, truth_code, words_at, has_text, text_relates, owner_code, text_code_of, number_load, number_compared, compare, compare_natural, comparison_of, equality_of, header_number, path_within, scope_words, scope_code, test_code}
+use Rattle.filter_compile.specs.PieceOfTest.{test_code}
+use Rattle.filter_compile.specs.TestCode.{view_field, field_place, exits_for, truth_word, truth_code, words_at, has_text, text_relates, owner_code, text_code_of, number_load, number_compared, compare, compare_natural, comparison_of, equality_of, header_number, path_within, scope_words, scope_code}
+use Rattle.filter_compile.proofs.Lengths.{total, total_is, total_cons, branch_total, verdicts_total}
+use Rattle.filter_compile.proofs.NearLength.{arg_number_total}
 
 -- ---- single instructions
-
--- the length, which no tactic computes
-total : List Ins → ℕ
-total code = plain_length code
-
-total_cons : (ins : Ins) (rest : List Ins) → total (ins ∷ rest) ≡ size_of (op_of ins.code) ins (sizes_of rest) + total rest
-unfolding total
-total_cons ins rest = sum_by-cons (λ size. size) (size_of (op_of ins.code) ins (sizes_of rest)) (sizes_of rest)
-
-verdicts_total : total verdicts ≡ 2
-unfolding total
-verdicts_total = refl
-
-branch_total : (test : Test) (k hit miss : ℕ) (rest : List Ins) → total (branch test k hit miss ∷ rest) ≡ 1 + count (is_far (span hit (sizes_of rest)) (span miss (sizes_of rest))) + count (is_far (span miss (sizes_of rest)) (span hit (sizes_of rest))) + total rest
-branch_total Equal k hit miss rest = total_cons (branch Equal k hit miss) rest
-branch_total test k hit miss rest = total_cons (branch test k hit miss) rest
 
 few : (far : Bool) → count far ≤ 1
 few true = omega arith
@@ -318,50 +304,47 @@ scope_total (ArgPath n) equality value exits rest =
 
 -- ---- tests and filters
 
-test_total : (names : List (List ℕ)) (t : filters.Test) (exits : Exits) (rest : List Ins) → is_compiled t ≡ true → total (test_code names t exits rest) ≤ test_weight t + total rest
-test_total names (tests.Kind equality kind) exits rest is = omega (arith, word_total kind_place Equal (kind_byte (kind_meant kind)) (exits_for equality exits) rest)
-test_total names tests.Broadcast exits rest is = omega (arith, word_total 56 Equal 0 exits rest)
-test_total names (tests.Flag flag) exits rest is = omega (arith, word_total 8 SharesBit (flag_bit flag) exits rest)
-test_total names (tests.HasField field) exits rest is = omega (arith, word_total (field_place field) Above 0 exits rest)
-test_total names (tests.HasArg n) exits rest is = omega (arith, word_total 20 Above (number_of_arg n) exits rest)
-test_total names (tests.IsType n type) exits rest is = omega (arith, word_total (argument_place (number_of_arg n)) Equal (type_code type) exits rest)
-test_total names (tests.Truth n equality truth) exits rest is = omega (arith, truth_total (number_of_arg n) equality truth exits rest)
-test_total names (tests.Text source relation value) exits rest is = text_total names source relation value exits rest
-test_total names (tests.Within scope equality value) exits rest is = scope_total scope equality value exits rest
-test_total names (tests.Number (sources.Arg n) relation value) exits rest is = absurd (false≢true is)
-test_total names (tests.Number source relation value) exits rest is = header_total source relation value exits rest
+test_total : (names : List (List ℕ)) (t : filters.Test) (exits : Exits) (rest : List Ins) → total (test_code names t exits rest) ≤ test_weight t + total rest
+test_total names (tests.Kind equality kind) exits rest = omega (arith, word_total kind_place Equal (kind_byte (kind_meant kind)) (exits_for equality exits) rest)
+test_total names tests.Broadcast exits rest = omega (arith, word_total 56 Equal 0 exits rest)
+test_total names (tests.Flag flag) exits rest = omega (arith, word_total 8 SharesBit (flag_bit flag) exits rest)
+test_total names (tests.HasField field) exits rest = omega (arith, word_total (field_place field) Above 0 exits rest)
+test_total names (tests.HasArg n) exits rest = omega (arith, word_total 20 Above (number_of_arg n) exits rest)
+test_total names (tests.IsType n type) exits rest = omega (arith, word_total (argument_place (number_of_arg n)) Equal (type_code type) exits rest)
+test_total names (tests.Truth n equality truth) exits rest = omega (arith, truth_total (number_of_arg n) equality truth exits rest)
+test_total names (tests.Text source relation value) exits rest = text_total names source relation value exits rest
+test_total names (tests.Within scope equality value) exits rest = scope_total scope equality value exits rest
+test_total names (tests.Number (sources.Arg n) relation value) exits rest = arg_number_total (number_of_arg n) relation value exits rest
+test_total names (tests.Number source relation value) exits rest = header_total source relation value exits rest
 
 mutual
-  filter_total : (names : List (List ℕ)) (f : FilterTree) (exits : Exits) (rest : List Ins) → are_compiled f ≡ true → total (filter_code names f exits rest).code ≤ tests_weight f + total rest
-  filter_total names (one_test t) exits rest is = test_total names t exits rest is
-  filter_total names (all fs) exits rest is = each_total names fs exits.fails (record { code = rest; entry = exits.holds }) is
-  filter_total names (any fs) exits rest is = one_total names fs exits.holds (record { code = rest; entry = exits.fails }) is
-  filter_total names (negation f) exits rest is = filter_total names f (turned exits) rest is
+  filter_total : (names : List (List ℕ)) (f : FilterTree) (exits : Exits) (rest : List Ins) → total (filter_code names f exits rest).code ≤ tests_weight f + total rest
+  filter_total names (one_test t) exits rest = test_total names t exits rest
+  filter_total names (all fs) exits rest = each_total names fs exits.fails (record { code = rest; entry = exits.holds })
+  filter_total names (any fs) exits rest = one_total names fs exits.holds (record { code = rest; entry = exits.fails })
+  filter_total names (negation f) exits rest = filter_total names f (turned exits) rest
 
-  each_total : (names : List (List ℕ)) (fs : FilterTrees) (fails : ℕ) (end : Entered) → all_compiled fs ≡ true → total (all_code names fs fails end).code ≤ sum_weight fs + total end.code
-  each_total names no_filters fails end is = omega arith
-  each_total names (one_more f fs) fails end is =
-      let both = and_parts (are_compiled f) (all_compiled fs) is in
+  each_total : (names : List (List ℕ)) (fs : FilterTrees) (fails : ℕ) (end : Entered) → total (all_code names fs fails end).code ≤ sum_weight fs + total end.code
+  each_total names no_filters fails end = omega arith
+  each_total names (one_more f fs) fails end =
       let later = all_code names fs fails end in
-      omega (arith, filter_total names f (record { holds = later.entry; fails = fails }) later.code both.0, each_total names fs fails end both.1)
+      omega (arith, filter_total names f (record { holds = later.entry; fails = fails }) later.code, each_total names fs fails end)
 
-  one_total : (names : List (List ℕ)) (fs : FilterTrees) (holds : ℕ) (end : Entered) → all_compiled fs ≡ true → total (any_code names fs holds end).code ≤ sum_weight fs + total end.code
-  one_total names no_filters holds end is = omega arith
-  one_total names (one_more f fs) holds end is =
-      let both = and_parts (are_compiled f) (all_compiled fs) is in
+  one_total : (names : List (List ℕ)) (fs : FilterTrees) (holds : ℕ) (end : Entered) → total (any_code names fs holds end).code ≤ sum_weight fs + total end.code
+  one_total names no_filters holds end = omega arith
+  one_total names (one_more f fs) holds end =
       let later = any_code names fs holds end in
-      omega (arith, filter_total names f (record { holds = holds; fails = later.entry }) later.code both.0, one_total names fs holds end both.1)
+      omega (arith, filter_total names f (record { holds = holds; fails = later.entry }) later.code, one_total names fs holds end)
 
 entry_total : (code : List Ins) (entry : ℕ) → total (from_entry code entry) ≤ 1 + total code
 entry_total code entry =
     choice_total (nat_lt entry (length code)) (1 + total code) (jump_over (length code - entry) ∷ code) code (omega (arith, total_cons (jump_over (length code - entry)) code)) (omega arith)
 
-code_total : (names : List (List ℕ)) (f : FilterTree) → are_compiled f ≡ true → total (program_code names f) ≤ weight_of f
-code_total names f is =
+code_total : (names : List (List ℕ)) (f : FilterTree) → total (program_code names f) ≤ weight_of f
+code_total names f =
     let entered = filter_code names f last_exits verdicts in
-    omega (arith, entry_total entered.code entered.entry, filter_total names f last_exits verdicts is, verdicts_total)
+    omega (arith, entry_total entered.code entered.entry, filter_total names f last_exits verdicts, verdicts_total)
 
 -- with an island for each far target the program isn't longer than the filter weighs
-pub filter_length : (names : List (List ℕ)) (f : FilterTree) → are_compiled f ≡ true → plain_length (program_code names f) ≤ weight_of f
-unfolding total
-filter_length names f is = code_total names f is
+pub filter_length : (names : List (List ℕ)) (f : FilterTree) → plain_length (program_code names f) ≤ weight_of f
+filter_length names f = omega (arith, total_is (program_code names f), code_total names f)

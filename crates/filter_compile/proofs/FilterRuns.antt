@@ -8,11 +8,12 @@ use Rattle.rule_compile.proofs.Pieces.{Any}
 use Rattle.filter.specs.declared.test.Test.{Test}
 use Rattle.filter.specs.FilterTree.{FilterTree, FilterTrees, test, all, any, negation, no_filters, one_more}
 use Rattle.filter_compile.specs.declared.exits.Exits.{Exits}
-use Rattle.filter_compile.specs.FilterCode.{Entered, whole, filter_code, all_code, any_code}
+use Rattle.filter_compile.specs.Entered.{Entered, whole}
+use Rattle.filter_compile.specs.FilterCode.{filter_code, all_code, any_code}
 use Rattle.filter_compile.specs.Holds.{TestHolds, FilterHolds, EachHolds, OneHolds}
 use Rattle.filter_compile.specs.EachTest.{Each, EachIn}
 use Rattle.filter_compile.specs.Pieces.{Piece, turned}
-use Rattle.filter_compile.specs.TestCode.{test_code}
+use Rattle.filter_compile.specs.PieceOfTest.{test_code}
 use Rattle.filter_compile.proofs.TwoExits.{LeadsAt, leads_here, leads_on, Extends, Tests}
 
 -- A program that begins anywhere, in front of a rest: from there a run ends as it does from an exit on.

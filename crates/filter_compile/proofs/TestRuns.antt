@@ -12,6 +12,7 @@ use Rattle.match_key.specs.Kinds.{kind_meant}
 use Rattle.rule_compile.specs.Code.{plain, image_word}
 use Rattle.rule_compile.proofs.Runs.{runs_image_word}
 use Rattle.filter_compile.specs.EachTest.{HasBytes}
+use Rattle.filter_compile.proofs.ArgNumbers.{extends_arg_number, tests_arg_number}
 use Rattle.filter_compile.proofs.Runs.{runs_length, runs_sub}
 use Rattle.filter_compile.proofs.HeaderNumbers.{Loads, extends_compared, tests_number}
 use Rattle.filter_compile.proofs.NamesOf.{AsksIn}
@@ -57,11 +58,11 @@ use Rattle.filter.specs.declared.test.TextSource.{TextSource}
 use Rattle.filter.specs.declared.test.TextSource.TheVariants as sources
 use Rattle.filter.specs.declared.test.TextType.{TextType}
 use Rattle.filter.specs.declared.test.TextType.TheVariants as text_types
-use Rattle.filter_compile.specs.Compiled.{is_compiled}
 use Rattle.filter_compile.specs.Holds.{Says, field_text, has_field, flag_bit, type_code, text_code, natural, value_at, integer_at, NumberRelates, text_at, TextRelates, OwnerRelates, TextHolds, scope_text, IsWithin, TestHolds}
 use Rattle.filter_compile.specs.Names.{has_name, slot_in}
 use Rattle.filter_compile.specs.Pieces.{Piece, no, both, is_there, word_test}
-use Rattle.filter_compile.specs.TestCode.{view_field, field_place, words_at, has_text, text_relates, owns, owner_code, text_code_of, says, scope_relates, scope_words, has_scope, scope_code, number_compared, header_number, test_code}
+use Rattle.filter_compile.specs.PieceOfTest.{number_code, test_code}
+use Rattle.filter_compile.specs.TestCode.{view_field, field_place, words_at, has_text, text_relates, owns, owner_code, text_code_of, says, scope_relates, scope_words, has_scope, scope_code, number_compared, header_number}
 use Rattle.filter_compile.proofs.TwoExits.{Extends, extends_no, extends_both, extends_choice, extends_either, extends_word, Tests, tests_same, tests_no, tests_then, tests_both, tests_word}
 use Rattle.filter_compile.proofs.Fields.{tests_says, extends_says, tests_kind, tests_there, tests_absent, reply_serial_above, tests_reply_serial, tests_count, type_above, tests_type, tests_owns}
 use Rattle.filter_compile.proofs.SourceTexts.{extends_relates, tests_relates, tests_field, argument_has_text, tests_argument}
@@ -176,27 +177,29 @@ module _ (image bytes : List ℕ) (m : Message) (slots : List ℕ) (owned : List
   length_loads rest v run a x any =
       runs_length (plain (Compute Sub Constant) 976 ∷ rest) image a x v (runs_sub rest image 976 (length (message_bytes m)) (length image) x v (omega arith) (omega (arith, len, len_below)) (omega (arith, len)) (run x any))
 
-  pub tests_header : (source : NumberSource) (relation : NumberRelation) (value : Integer) → is_compiled (tests.Number source relation value) ≡ true → Tests image Any (IsSomeAnd (integer_at source m) (λ found. NumberRelates relation found value)) (header_number source relation value)
-  tests_header sources_of.Serial relation value is =
+  pub tests_header : (source : NumberSource) (relation : NumberRelation) (value : Integer) → Tests image Any (IsSomeAnd (integer_at source m) (λ found. NumberRelates relation found value)) (number_code source relation value)
+  tests_header sources_of.Serial relation value =
       tests_number image m.serial (λ rest. image_word serial_place ∷ rest) valid.serial_fits (word_loads serial_place m.serial shows.serials.0) relation value
-  tests_header sources_of.ReplySerial relation value is =
+  tests_header sources_of.ReplySerial relation value =
       answered (reply_serial_of m) shows.serials.1 (λ n e. reply_serial_above bytes m n valid e) (reply_serial_below bytes m valid) relation value
-  tests_header sources_of.Flags relation value is =
+  tests_header sources_of.Flags relation value =
       tests_number image m.flags (λ rest. image_word flags_place ∷ rest) (omega (arith, valid.flags)) (word_loads flags_place m.flags shows.head.flags) relation value
-  tests_header sources_of.BodyLength relation value is =
+  tests_header sources_of.BodyLength relation value =
       tests_number image (length (body_bytes m)) (λ rest. image_word 16 ∷ rest) body_below (word_loads 16 (length (body_bytes m)) shows.head.body_len) relation value
-  tests_header sources_of.Args relation value is =
+  tests_header sources_of.Args relation value =
       let n : ℕ = min (length (arguments_of m)) 64 in
       tests_number image n (λ rest. image_word count_place ∷ rest) (omega arith) (word_loads count_place n shows.head.count) relation value
-  tests_header sources_of.Length relation value is =
+  tests_header sources_of.Length relation value =
       tests_number image (length (message_bytes m)) (λ rest. plain LoadLength 0 ∷ plain (Compute Sub Constant) 976 ∷ rest) (omega (arith, len_below)) length_loads relation value
-  tests_header (sources_of.Arg n) relation value is = absurd (false≢true is)
+  tests_header (sources_of.Arg n) relation value =
+      let k : ℕ = number_of_arg n in
+      tests_arg_number image (message_bytes m) m.order max_levels k (slice_get (arguments_of m) k) (value_at k m.types m.arguments) relation value shows.head.order (shows.argument k (let l = number_small n in omega arith)) (arguments_lie bytes m k valid) (λ laid. lies (slice_get (arguments_of m) k) (value_at k m.types m.arguments) laid)
 
   -- ---- each test
 
-  -- the test has a program, its text is of bytes, and the name that it asks for is among the names
+  -- its text is of bytes, and the name that it asks for is among the names
   abbrev pub Fits : Test → Type 0
-  Fits t = (is_compiled t ≡ true) × (HasBytes t × AsksIn names t)
+  Fits t = HasBytes t × AsksIn names t
 
   asked_of : (b : Bool) (value : List ℕ) → IfSome (if b then Some value else None) (λ name. has_name names name ≡ true) → b ≡ true → has_name names value ≡ true
   asked_of true value is e = is
@@ -214,9 +217,9 @@ module _ (image bytes : List ℕ) (m : Message) (slots : List ℕ) (owned : List
   test_runs (tests.Truth n equality truth) fits =
       let k : ℕ = number_of_arg n in
       tests_truth image (message_bytes m) m.order max_levels k (slice_get (arguments_of m) k) (value_at k m.types m.arguments) equality truth (shows.argument k (let l = number_small n in omega arith)) (arguments_lie bytes m k valid) (λ laid. lies (slice_get (arguments_of m) k) (value_at k m.types m.arguments) laid)
-  test_runs (tests.Text source relation value) fits = tests_text source relation value fits.1.0 (asked_of (asks_owner source relation value) value fits.1.1)
-  test_runs (tests.Within scope equality value) fits = tests_scope scope equality value fits.1.0
-  test_runs (tests.Number source relation value) fits = tests_header source relation value fits.0
+  test_runs (tests.Text source relation value) fits = tests_text source relation value fits.0 (asked_of (asks_owner source relation value) value fits.1)
+  test_runs (tests.Within scope equality value) fits = tests_scope scope equality value fits.0
+  test_runs (tests.Number source relation value) fits = tests_header source relation value
 
 -- ---- pieces stand in front of their rest
 
@@ -243,18 +246,19 @@ extends_scope_relates PathNamespace value at = extends_path_within value at
 extends_scope_relates (ArgNamespace n) value at = extends_in_namespace 46 value at
 extends_scope_relates (ArgPath n) value at = extends_is_nested value at
 
-pub extends_piece : (names : List (List ℕ)) (t : Test) → is_compiled t ≡ true → Extends (test_code names t)
-extends_piece names (tests.Kind equality kind) compiled = extends_says equality _ (extends_word _ Equal _)
-extends_piece names tests.Broadcast compiled = extends_word 56 Equal 0
-extends_piece names (tests.Flag flag) compiled = extends_word flags_place SharesBit (flag_bit flag)
-extends_piece names (tests.HasField field) compiled = extends_word (field_place field) Above 0
-extends_piece names (tests.HasArg n) compiled = extends_word count_place Above (number_of_arg n)
-extends_piece names (tests.IsType n type) compiled = extends_word _ Equal (type_code type)
-extends_piece names (tests.Truth n equality truth) compiled = extends_truth (number_of_arg n) equality truth
-extends_piece names (tests.Text source relation value) compiled = extends_text names source relation value
-extends_piece names (tests.Within scope equality value) compiled =
+pub extends_piece : (names : List (List ℕ)) (t : Test) → Extends (test_code names t)
+extends_piece names (tests.Kind equality kind) = extends_says equality _ (extends_word _ Equal _)
+extends_piece names tests.Broadcast = extends_word 56 Equal 0
+extends_piece names (tests.Flag flag) = extends_word flags_place SharesBit (flag_bit flag)
+extends_piece names (tests.HasField field) = extends_word (field_place field) Above 0
+extends_piece names (tests.HasArg n) = extends_word count_place Above (number_of_arg n)
+extends_piece names (tests.IsType n type) = extends_word _ Equal (type_code type)
+extends_piece names (tests.Truth n equality truth) = extends_truth (number_of_arg n) equality truth
+extends_piece names (tests.Text source relation value) = extends_text names source relation value
+extends_piece names (tests.Within scope equality value) =
     let f : Piece = scope_relates scope value (scope_words scope) in
     extends_both (has_scope scope) (says equality f) (extends_has_scope scope) (extends_says equality f (extends_scope_relates scope value (scope_words scope)))
-extends_piece names (tests.Number sources_of.ReplySerial relation value) compiled =
+extends_piece names (tests.Number sources_of.ReplySerial relation value) =
     extends_both (is_there reply_serial_place) (number_compared sources_of.ReplySerial relation value) (extends_word reply_serial_place Above 0) (extends_compared sources_of.ReplySerial relation value)
-extends_piece names (tests.Number source relation value) compiled = extends_compared source relation value
+extends_piece names (tests.Number (sources_of.Arg n) relation value) = extends_arg_number (number_of_arg n) relation value
+extends_piece names (tests.Number source relation value) = extends_compared source relation value

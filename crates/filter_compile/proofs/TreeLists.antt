@@ -1,22 +1,14 @@
 -- What holds of all filters of a list holds of each.
-use Rattle.std.proofs.Common.{◌≡◌, ℕ, zero, suc, ◌+◌, ◌<◌, ◌≤◌, true, List, [], ◌∷◌, length, map, ap, ◌∙◌, arith, slice_index_or}
-use Rattle.std.proofs.lemmas.Bool.{and_parts}
+use Rattle.std.proofs.Common.{◌≡◌, ℕ, zero, suc, ◌+◌, ◌<◌, ◌≤◌, List, [], ◌∷◌, length, map, ap, arith, slice_index_or}
 use Rattle.filter.specs.FilterTree.{FilterTree, FilterTrees, test, all, any, negation, no_filters, one_more, list_of}
 use Rattle.filter.specs.Filters.{tree_of}
 use Rattle.filter.specs.Weights.{tests_weight, sum_weight}
 use Rattle.filter.specs.declared.filter.Filter.{Filter}
-use Rattle.filter_compile.specs.Compiled.{are_compiled, all_compiled}
 
 light_at : (fs : List Filter) (i : ℕ) (f : Filter) → i < length fs → tests_weight (tree_of (slice_index_or fs i f)) ≤ sum_weight (list_of (map tree_of fs))
 light_at [] i f inside = absurd (omega (arith, inside))
 light_at (g ∷ fs) zero f inside = omega arith
 light_at (g ∷ fs) (suc i) f inside = omega (arith, light_at fs i f (omega (arith, inside)))
-
-compiled_at : (fs : List Filter) (i : ℕ) (f : Filter) → i < length fs → all_compiled (list_of (map tree_of fs)) ≡ true → are_compiled (tree_of (slice_index_or fs i f)) ≡ true
-compiled_at [] i f inside is = absurd (omega (arith, inside))
-compiled_at (g ∷ fs) zero f inside is = (and_parts (are_compiled (tree_of g)) (all_compiled (list_of (map tree_of fs))) is).0
-compiled_at (g ∷ fs) (suc i) f inside is =
-    compiled_at fs i f (omega (arith, inside)) ((and_parts (are_compiled (tree_of g)) (all_compiled (list_of (map tree_of fs))) is).1)
 
 -- how many filters a filter is made of, itself among them
 abbrev mutual
@@ -45,6 +37,3 @@ pub light_one : (fs : List Filter) (i : ℕ) (f : Filter) → i < length fs → 
 light_one fs i f inside is light =
     let e : tests_weight (tree_of f) ≡ tests_weight (tree_of (slice_index_or fs i f)) = ap (λ (g : Filter). tests_weight (tree_of g)) is in
     omega (arith, e, light_at fs i f inside, light)
-
-pub compiled_one : (fs : List Filter) (i : ℕ) (f : Filter) → i < length fs → f ≡ slice_index_or fs i f → all_compiled (list_of (map tree_of fs)) ≡ true → are_compiled (tree_of f) ≡ true
-compiled_one fs i f inside is each = ap (λ (g : Filter). are_compiled (tree_of g)) is ∙ compiled_at fs i f inside each

@@ -5,17 +5,9 @@ use Rattle.jump_islands.specs.Source.{jump_over}
 use Rattle.rule_compile.specs.RuleCode.{verdicts}
 use Rattle.filter.specs.FilterTree.{FilterTree, FilterTrees, test, all, any, negation, no_filters, one_more}
 use Rattle.filter_compile.specs.declared.exits.Exits.{Exits}
+use Rattle.filter_compile.specs.Entered.{Entered, whole}
+use Rattle.filter_compile.specs.PieceOfTest.{test_code}
 use Rattle.filter_compile.specs.Pieces.{turned}
-use Rattle.filter_compile.specs.TestCode.{test_code}
-
--- a program under way, and where it begins: how many instructions there are from there to the end
-pub record Entered : Type 0 where
-  pub code : List Ins
-  pub entry : ℕ
-
--- it begins with its first instruction
-abbrev pub whole : List Ins → Entered
-whole code = record { code = code; entry = length code }
 
 -- In front of a rest, with these exits. A list of no filters begins at an exit.
 abbrev mutual

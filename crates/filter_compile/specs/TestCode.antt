@@ -10,11 +10,9 @@ use Rattle.bpf_code.specs.declared.operation.Test.TheVariants.{Equal, Above, AtL
 use Rattle.bpf_code.specs.declared.operation.Width.TheVariants.{Word}
 use Rattle.message_view.specs.declared.extent.TextField as view
 use Rattle.message_view.specs.declared.extent.TextField.TheVariants as view_fields
-use Rattle.message_view.specs.Header.{kind_byte}
 use Rattle.match_key.specs.ArgNumber.{number_of_arg}
-use Rattle.match_key.specs.Kinds.{kind_meant}
 use Rattle.summary.specs.declared.edition.Edition.TheVariants.{Two}
-use Rattle.summary.specs.Layout.{kind_place, flags_place, body_words_place, count_place, text_place, argument_place, ownership_place, serial_place, reply_serial_place, summary_len}
+use Rattle.summary.specs.Layout.{flags_place, body_words_place, count_place, text_place, argument_place, ownership_place, serial_place, reply_serial_place, summary_len}
 use Rattle.rule_compile.specs.Code.{plain, image_word}
 use Rattle.filter.specs.declared.integer.Integer.{Integer}
 use Rattle.filter.specs.declared.integer.Integer.TheVariants.{Natural, Negative}
@@ -28,8 +26,6 @@ use Rattle.filter.specs.declared.test.NumberSource.{NumberSource}
 use Rattle.filter.specs.declared.test.NumberSource.TheVariants as sources
 use Rattle.filter.specs.declared.test.Scope.{Scope}
 use Rattle.filter.specs.declared.test.Scope.TheVariants.{PathNamespace, ArgNamespace, ArgPath}
-use Rattle.filter.specs.declared.test.Test.{Test}
-use Rattle.filter.specs.declared.test.Test.TheVariants as tests
 use Rattle.filter.specs.declared.test.TextField.{TextField}
 use Rattle.filter.specs.declared.test.TextField.TheVariants as text_fields
 use Rattle.filter.specs.declared.test.TextRelation.{TextRelation}
@@ -37,7 +33,7 @@ use Rattle.filter.specs.declared.test.TextRelation.TheVariants as relations
 use Rattle.filter.specs.declared.test.TextSource.{TextSource}
 use Rattle.filter.specs.declared.test.TextSource.TheVariants as texts
 use Rattle.filter.specs.Weights.{asks_owner}
-use Rattle.filter_compile.specs.Holds.{flag_bit, type_code, text_code}
+use Rattle.filter_compile.specs.Holds.{text_code}
 use Rattle.filter_compile.specs.Names.{slot_in}
 use Rattle.filter_compile.specs.declared.exits.Exits.{Exits}
 use Rattle.filter_compile.specs.Pieces.{Piece, turned, no, both, either, fork, word_test, indexed_test, is_there, has_len, from_start, is_text, begins, ends, in_namespace, is_nested}
@@ -201,17 +197,3 @@ scope_relates (ArgPath n) value at = is_nested value at
 
 abbrev pub scope_code : Scope → Equality → List ℕ → Piece
 scope_code scope equality value = both (has_scope scope) (says equality (scope_relates scope value (scope_words scope)))
-
--- ---- tests
-
-abbrev pub test_code : List (List ℕ) → Test → Piece
-test_code names (tests.Kind equality kind) = says equality (word_test kind_place Equal (kind_byte (kind_meant kind)))
-test_code names tests.Broadcast = word_test (text_place view_fields.Destination) Equal 0
-test_code names (tests.Flag flag) = word_test flags_place SharesBit (flag_bit flag)
-test_code names (tests.HasField field) = word_test (field_place field) Above 0
-test_code names (tests.HasArg n) = word_test count_place Above (number_of_arg n)
-test_code names (tests.IsType n type) = has_type (number_of_arg n) (type_code type)
-test_code names (tests.Truth n equality truth) = truth_code (number_of_arg n) equality truth
-test_code names (tests.Text source relation value) = text_code_of names source relation value
-test_code names (tests.Within scope equality value) = scope_code scope equality value
-test_code names (tests.Number source relation value) = header_number source relation value

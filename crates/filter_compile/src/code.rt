@@ -112,7 +112,7 @@ impl Code {
     }
 
     /// Puts a jump over instructions in front.
-    fn put_jump(&mut self, over: usize) -> Result<(), AllocError>
+    pub(crate) fn put_jump(&mut self, over: usize) -> Result<(), AllocError>
         requires { over < length self.old }
         ensures { OnOk result (self.new ≡ jump_over over ∷ self.old) }
     {

@@ -1,10 +1,10 @@
 // Filters as accepted programs.
-ghost use Rattle.std.specs.Prelude.{◌≡◌, ◌≤◌, true, IfOk, IfErr, length};
+ghost use Rattle.std.specs.Prelude.{◌≡◌, ◌≤◌, IfOk, IfErr, length};
 ghost use Rattle.bpf_code.specs.Program.{WellFormed};
 ghost use Rattle.jump_islands.specs.Source.{AreWellMade};
 ghost use Rattle.filter.specs.Filters.{tree_of};
 ghost use Rattle.filter.specs.Weights.{weight_of};
-ghost use Rattle.filter_compile.specs.Compiled.{are_compiled, IsCompiled, IsRefusal};
+ghost use Rattle.filter_compile.specs.Compiled.{IsCompiled, IsRefusal};
 ghost use Rattle.filter_compile.specs.FilterCode.{program_code};
 ghost use Rattle.filter_compile.specs.Names.{names_of};
 
@@ -12,7 +12,6 @@ use crate::code::Code;
 use crate::error::CompileError;
 use crate::exits::Exits;
 use crate::names::Names;
-use crate::supported::are_compiled;
 use crate::test_bytes::have_bytes;
 use crate::tree::put_filter;
 use bpf_code::Ins;
@@ -43,7 +42,6 @@ fn program_code(
 ) -> Result<SourceProgram, AllocError>
     requires names { length names.now ≤ 512 }
     requires weight { weight_of (tree_of filter.now) ≤ 4096 }
-    requires compiled { are_compiled (tree_of filter.now) ≡ true }
     ensures value { IfOk result (λ code. code ≡ program_code names.now (tree_of filter.now)) }
     ensures made { IfOk result AreWellMade }
 {
@@ -56,7 +54,6 @@ fn program_code(
 /// The program of a filter that isn't too heavy.
 fn compile_light(alloc: Global, filter: &Filter) -> Result<Verified, CompileError>
     requires weight { weight_of (tree_of filter.now) ≤ 4096 }
-    requires compiled { are_compiled (tree_of filter.now) ≡ true }
     ensures compiled { IfOk result (λ program. IsCompiled (tree_of filter.now) program) }
     ensures refused { IfErr result (IsRefusal (tree_of filter.now)) }
 {
@@ -77,9 +74,6 @@ pub fn compile(alloc: Global, filter: &Filter) -> Result<Verified, CompileError>
 {
     if filter.weight() > MAX_WEIGHT {
         return Err(CompileError::TooHeavy);
-    }
-    if !are_compiled(filter) {
-        return Err(CompileError::Unsupported);
     }
     compile_light(alloc, filter)
 }

@@ -12,8 +12,6 @@ use std::fmt;
 pub enum CompileError {
     /// The filter weighs more than 4,096, so that its program might have more instructions than that.
     TooHeavy,
-    /// It has a test of a kind that has no program yet.
-    Unsupported,
     /// Memory was refused.
     NoMemory,
 }
@@ -25,7 +23,6 @@ impl CompileError {
     {
         match self {
             CompileError::TooHeavy => "TooHeavy",
-            CompileError::Unsupported => "Unsupported",
             CompileError::NoMemory => "NoMemory",
         }
     }

@@ -2,6 +2,7 @@
 //! is nonzero exactly where the filter holds of the message.
 #![tactic(auto)]
 
+mod arg_number;
 mod code;
 mod compiling;
 mod error;
@@ -10,7 +11,6 @@ mod names;
 mod nested;
 mod number;
 mod scope;
-mod supported;
 mod test;
 mod test_bytes;
 mod text;

@@ -22,7 +22,7 @@ const SERIAL_PLACE: u32 = 968;
 const SUMMARY_LEN: u32 = 976;
 
 /// The comparison of a relation, or of its opposite.
-fn comparison_of(relation: NumberRelation) -> Test
+pub(crate) fn comparison_of(relation: NumberRelation) -> Test
     ensures { result ≡ comparison_of relation }
 {
     match relation {
@@ -33,7 +33,7 @@ fn comparison_of(relation: NumberRelation) -> Test
     }
 }
 
-fn equality_of(relation: NumberRelation) -> Equality
+pub(crate) fn equality_of(relation: NumberRelation) -> Equality
     ensures { result ≡ equality_of relation }
 {
     match relation {

@@ -3,15 +3,16 @@ ghost use Rattle.std.specs.Prelude.{◌≡◌, ◌<◌, ◌≤◌, ◌^◌, leng
 ghost use Rattle.match_key.specs.ArgNumber.{number_of_arg};
 ghost use Rattle.filter.specs.Weights.{test_weight, text_weight};
 ghost use Rattle.filter_compile.specs.Holds.{flag_bit, type_code, text_code};
-ghost use Rattle.filter_compile.specs.Compiled.{is_compiled};
-ghost use Rattle.filter_compile.specs.TestCode.{view_field, field_place, has_type, truth_word, truth_code, words_at, has_text, text_relates, owns, owner_code, text_code_of, test_code};
+ghost use Rattle.filter_compile.specs.PieceOfTest.{test_code};
+ghost use Rattle.filter_compile.specs.TestCode.{view_field, field_place, has_type, truth_word, truth_code, words_at, has_text, text_relates, owns, owner_code, text_code_of};
 
 use crate::code::Code;
 use crate::exits::Exits;
 use crate::names::{Names, asks_owner};
 use bpf_code::Width;
 use filter::{
-    ArgNumber, ArgType, Equality, Field, Flag, Test, TextField, TextRelation, TextSource, TextType,
+    ArgNumber, ArgType, Equality, Field, Flag, NumberSource, Test, TextField, TextRelation,
+    TextSource, TextType,
 };
 use message_view::TextField as ViewField;
 use std::alloc::AllocError;
@@ -259,7 +260,6 @@ pub(crate) fn put_test(
 ) -> Result<(), AllocError>
     requires names { length names.now ≤ 512 }
     requires weight { test_weight test.now ≤ 4096 }
-    requires compiled { is_compiled test.now ≡ true }
     requires holds { 0 < exits.holds }
     requires fails { 0 < exits.fails }
     ensures { OnOk result (code.new ≡ test_code names.now test.now exits code.old) }
@@ -299,6 +299,9 @@ pub(crate) fn put_test(
             value.as_str(),
             exits,
         ),
+        Test::Number(NumberSource::Arg(n), relation, value) => {
+            code.arg_number(*n, *relation, *value, exits)
+        }
         Test::Number(source, relation, value) => {
             code.header_number(*source, *relation, *value, exits)
         }

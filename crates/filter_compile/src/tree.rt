@@ -1,10 +1,10 @@
 // Filters as programs that aren't lowered yet.
-ghost use Rattle.std.specs.Prelude.{◌≡◌, ◌<◌, ◌≤◌, length, map, true, IfOk};
+ghost use Rattle.std.specs.Prelude.{◌≡◌, ◌<◌, ◌≤◌, length, map, IfOk};
 ghost use Rattle.filter.specs.FilterTree.{list_of};
 ghost use Rattle.filter.specs.Filters.{tree_of};
 ghost use Rattle.filter.specs.Weights.{tests_weight, sum_weight};
-ghost use Rattle.filter_compile.specs.Compiled.{are_compiled, all_compiled};
-ghost use Rattle.filter_compile.specs.FilterCode.{Entered, filter_code, all_code, any_code};
+ghost use Rattle.filter_compile.specs.Entered.{Entered};
+ghost use Rattle.filter_compile.specs.FilterCode.{filter_code, all_code, any_code};
 
 use crate::code::Code;
 use crate::exits::Exits;
@@ -23,7 +23,6 @@ pub(crate) fn put_filter(
 ) -> Result<usize, AllocError>
     requires names { length names.now ≤ 512 }
     requires weight { tests_weight (tree_of filter.now) ≤ 4096 }
-    requires compiled { are_compiled (tree_of filter.now) ≡ true }
     requires holds { 0 < exits.holds }
     requires fails { 0 < exits.fails }
     ensures code { IfOk result (λ entry. record { code = code.new; entry = entry } ≡ filter_code names.now (tree_of filter.now) exits code.old) }
@@ -50,7 +49,6 @@ fn put_all(
 ) -> Result<usize, AllocError>
     requires names { length names.now ≤ 512 }
     requires weight { sum_weight (list_of (map tree_of filters.now)) ≤ 4096 }
-    requires compiled { all_compiled (list_of (map tree_of filters.now)) ≡ true }
     requires holds { 0 < exits.holds }
     requires fails { 0 < exits.fails }
     ensures code { IfOk result (λ entry. record { code = code.new; entry = entry } ≡ all_code names.now (list_of (map tree_of filters.now)) exits.fails (record { code = code.old; entry = exits.holds })) }
@@ -73,7 +71,6 @@ fn put_any(
 ) -> Result<usize, AllocError>
     requires names { length names.now ≤ 512 }
     requires weight { sum_weight (list_of (map tree_of filters.now)) ≤ 4096 }
-    requires compiled { all_compiled (list_of (map tree_of filters.now)) ≡ true }
     requires holds { 0 < exits.holds }
     requires fails { 0 < exits.fails }
     ensures code { IfOk result (λ entry. record { code = code.new; entry = entry } ≡ any_code names.now (list_of (map tree_of filters.now)) exits.holds (record { code = code.old; entry = exits.fails })) }
