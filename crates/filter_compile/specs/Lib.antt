@@ -1,0 +1,13 @@
+pub mod Holds
+pub mod Pieces
+pub mod Sound
+pub mod Names
+pub mod TestCode
+pub mod PieceOfTest
+pub mod Entered
+pub mod FilterCode
+pub mod Compiled
+pub mod EachTest
+pub mod Numbers
+pub mod FilterVerdict
+pub mod ArgCode

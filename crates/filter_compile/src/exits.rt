@@ -1,0 +1,39 @@
+// Where a piece of a program goes on.
+ghost use Rattle.std.specs.Prelude.{◌≡◌, ◌<◌};
+ghost use Rattle.filter_compile.specs.Pieces.{turned};
+ghost use Rattle.filter_compile.specs.TestCode.{exits_for};
+
+use filter::Equality;
+
+/// The two exits of a piece, places further on, each as the number of instructions from it to the program's end.
+#[derive(Clone, Copy)]
+pub(crate) struct Exits {
+    /// Where the piece's fact holds.
+    pub(crate) holds: usize,
+    /// Where it doesn't.
+    pub(crate) fails: usize,
+}
+
+impl Exits {
+    /// Those of the piece that is to hold where this one doesn't.
+    pub(crate) fn turned(self) -> Exits
+        ensures { result ≡ turned self }
+    {
+        Exits {
+            holds: self.fails,
+            fails: self.holds,
+        }
+    }
+
+    /// Those of a piece that is to hold, or not to.
+    pub(crate) fn for_equality(self, equality: Equality) -> Exits
+        ensures value { result ≡ exits_for equality self }
+        ensures holds { 0 < self.holds → 0 < self.fails → 0 < result.holds }
+        ensures fails { 0 < self.holds → 0 < self.fails → 0 < result.fails }
+    {
+        match equality {
+            Equality::Equal => self,
+            Equality::Unequal => self.turned(),
+        }
+    }
+}
