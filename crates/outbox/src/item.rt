@@ -37,11 +37,11 @@ impl Model for Item {
 }
 
 impl Item {
-    /// A message that an outbox gives out as soon as it holds it, and that is no broadcast.
-    pub fn new(alloc: Global, bytes: Bytes) -> Result<Item, AllocError>
-        ensures { IfOk result (λ item. item ≡ record { bytes = bytes; mark = None; place = None; hold = None }) }
+    /// A message that an outbox gives out as soon as it holds it, and that is no broadcast. It bears this place, if any.
+    pub fn new(alloc: Global, bytes: Bytes, place: Option<u64>) -> Result<Item, AllocError>
+        ensures { IfOk result (λ item. item ≡ record { bytes = bytes; mark = None; place = place; hold = None }) }
     {
-        Item::of(alloc, bytes, None, None, None)
+        Item::of(alloc, bytes, None, place, None)
     }
 
     pub(crate) fn of(

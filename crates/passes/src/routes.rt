@@ -2,6 +2,7 @@
 
 ghost use Rattle.std.specs.Prelude.{◌≡◌, ◌⊎◌, [], IfErr, IfOk, OnOk, MatchResult};
 ghost use Rattle.routing.specs.RecipientSeats.{RisesFrom, AllHave, Keeps, Routed, Unrouted};
+ghost use Rattle.routing.specs.Turns.{KeepsTurns, MayStand};
 ghost use Rattle.passes.specs.Passes.{IsOpenTo};
 ghost use Rattle.passes.specs.Routes.{HasRouted, IsUnrouted, pass_written};
 
@@ -10,38 +11,43 @@ use crate::pass::Pass;
 use crate::reading::Source;
 use crate::route_lists::RouteLists;
 use crate::seating::seat_recipients;
+use crate::standing::Standing;
 use arrayvec::ArrayVec;
 use bytes::Bytes;
 use fan_out::MAX_RECIPIENTS;
 use message_view::View;
 use published::BusBrand;
-use routing::{Gate, Mailbox, RouteError, Sender};
+use routing::{Gate, Mailbox, RouteError, Sender, Turns};
 use std::alloc::{AllocError, Global};
 use std::sync::Wait;
 
-// Puts a broadcast to its recipients, once the sender has its seats.
-fn route<M: Mailbox, W: Wait, G: Gate>(
+/// Puts a broadcast to its recipients, once the sender has its seats, at this place if at any.
+pub(crate) fn route<M: Mailbox, W: Wait, G: Gate>(
     rt: &W,
     alloc: Global,
     sender: &mut Sender<M>,
     seated: Result<(), AllocError>,
     recipients: &ArrayVec<u64, MAX_RECIPIENTS>,
     bytes: &Bytes,
+    place: Option<u64>,
+    turns: &mut Turns,
     gate: &G,
     refused: &mut ArrayVec<u64, MAX_RECIPIENTS>,
 ) -> Result<(), BusError>
     requires none { refused.old.items ≡ [] }
     requires rising { RisesFrom 0 recipients.now.items }
     requires seats { OnOk seated (AllHave recipients.now.items sender.old.recipient_seats) }
+    requires stands { MayStand place recipients.now.items sender.old.recipient_seats turns.old }
+    ensures turns { KeepsTurns turns.old turns.new }
     ensures keeps { Keeps [] sender.old sender.new }
-    ensures ok { OnOk result (Routed bytes.now recipients.now.items refused.new.items sender.old sender.new) }
+    ensures ok { OnOk result (Routed place bytes.now recipients.now.items refused.new.items sender.old sender.new) }
     ensures err { IfErr result (λ error. ((error ≡ BusError.NoMemory) ⊎ ((error ≡ BusError.Counts) × (sender.old.count ≡ u64.MAX))) × Unrouted sender.old sender.new) }
 {
     match seated {
         Ok(()) => {}
         Err(_) => return Err(BusError::NoMemory),
     }
-    match sender.broadcast(rt, alloc, recipients.as_slice(), bytes, gate, refused) {
+    match sender.broadcast(rt, alloc, recipients.as_slice(), bytes, place, turns, gate, refused) {
         Ok(()) => Ok(()),
         Err(RouteError::NoMemory) => Err(BusError::NoMemory),
         Err(RouteError::Counts) => Err(BusError::Counts),
@@ -71,7 +77,7 @@ impl<B: BusBrand, M: Mailbox> Pass<B, M> {
     ) -> Result<(), BusError>
         // The view is that of the bytes.
         requires { view.now ≡ bytes.now }
-        ensures routed { MatchResult result (λ _. HasRouted M.outbox_of source bytes.now self.old lists.new.recipients.items lists.new.refused.items self.new) (λ error. IsUnrouted M.outbox_of error self.old self.new) }
+        ensures routed { MatchResult result (λ _. HasRouted Standing.Apart M.outbox_of source bytes.now self.old lists.new.recipients.items lists.new.refused.items self.new) (λ error. IsUnrouted M.outbox_of error self.old self.new) }
         ensures open { IfOk result (λ _. IsOpenTo source self.old) }
     {
         lists.clear();
@@ -94,6 +100,8 @@ impl<B: BusBrand, M: Mailbox> Pass<B, M> {
             seated,
             &lists.recipients,
             bytes,
+            None,
+            &mut Turns::new(alloc),
             gate,
             &mut lists.refused,
         );

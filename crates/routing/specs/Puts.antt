@@ -48,10 +48,11 @@ pub record PutTo (item : Item) (recipients refused : List ℕ) (old new : List R
   pub below : end_of 0 refused ≤ end_of 0 recipients
 
 -- the next broadcast was put to each of these recipients, but to those that refused it, and nothing else changes
-pub record RoutedTo (bytes recipients refused : List ℕ) (old new : SenderView) : Type 0 where
+pub record RoutedTo (place : Option ℕ) (bytes recipients refused : List ℕ) (old new : SenderView) : Type 0 where
   pub item : Item
   pub bytes_are : item.bytes ≡ bytes
   pub mark_is : item.mark ≡ Some (old.origin, old.count + 1)
+  pub place_is : item.place ≡ place
   pub origin_is : new.origin ≡ old.origin
   pub count_is : new.count ≡ old.count + 1
   pub change : PutTo item recipients refused old.recipient_seats new.recipient_seats

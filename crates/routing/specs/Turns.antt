@@ -11,10 +11,11 @@ pub record TurnView : Type 0 where
   pub queue : SegId Global
   pub last : ℕ
 
--- the place at which things are put now, and the turns
+-- the place at which things are put now, the turns, and whether there is room for one more
 pub record TurnsView : Type 0 where
   pub latest : ℕ
   pub turns : List TurnView
+  pub has_room : Bool
 
 abbrev pub is_turn_of : ℕ → TurnView → Bool
 is_turn_of n t = t.number == n
@@ -35,11 +36,14 @@ AllBefore latest turns = (n : ℕ) → IfSome (turn_at n turns) (λ t. t.last �
 abbrev pub HasTurn : ℕ → List RecipientSeatView → TurnsView → Type 0
 HasTurn n recipient_seats turns = IfSome (seat_at n recipient_seats) (λ s. queue_at n turns.turns ≡ Some s.outbox.queue)
 
--- a message at this place, if at any, may be put at the outboxes of these recipients: the place is that at which things are put
--- now, and the outboxes' turns are there
+-- a message at this place, if at any, may be put at the recipient's outbox: the place is that at which things are put now, and the
+-- outbox's turn is there
+abbrev pub StandsAt : Option ℕ → ℕ → List RecipientSeatView → TurnsView → Type 0
+StandsAt place n recipient_seats turns = IfSome place (λ p. (p ≡ turns.latest) × HasTurn n recipient_seats turns)
+
+-- the same of the outboxes of these recipients
 abbrev pub MayStand : Option ℕ → List ℕ → List RecipientSeatView → TurnsView → Type 0
-MayStand place recipients recipient_seats turns =
-    IfSome place (λ p. (p ≡ turns.latest) × ((n : ℕ) → is_in n recipients ≡ true → HasTurn n recipient_seats turns))
+MayStand place recipients recipient_seats turns = (n : ℕ) → is_in n recipients ≡ true → StandsAt place n recipient_seats turns
 
 -- the turns are those of the same outboxes
 pub record KeepsTurns (old new : TurnsView) : Type 0 where

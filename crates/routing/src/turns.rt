@@ -62,11 +62,12 @@ pub struct Turns {
 }
 
 impl Model for Turns {
+    ghost use Rattle.std.specs.Prelude.{nat_lt, vec_len, vec_capacity};
     ghost use Rattle.routing.specs.Turns.{TurnsView, AllBefore};
 
     ghost Value = { TurnsView };
 
-    ghost view = { λ t. record { latest = t.latest; turns = t.turns.items } };
+    ghost view = { λ t. record { latest = t.latest; turns = t.turns.items; has_room = nat_lt (vec_len t.turns) (vec_capacity t.turns) } };
 
     ghost invariant = { λ t. AllBefore t.latest t.turns.items };
 }
@@ -80,7 +81,7 @@ fn place_of(turns: &[NumberedTurn], number: u64) -> Option<usize>
 impl Turns {
     /// No turns, before the first place. It takes no memory.
     pub fn new(alloc: Global) -> Turns
-        ensures { result ≡ record { latest = 0; turns = [] } }
+        ensures { (result.latest ≡ 0) × (result.turns ≡ []) }
     {
         Turns {
             latest: 0,
@@ -90,8 +91,8 @@ impl Turns {
 
     /// Puts at this place from now on, unless something was put at a later one.
     pub fn stand_at(&mut self, place: u64) -> bool
-        ensures { result ≡ nat_le self.old.latest place }
-        ensures { self.new ≡ record self.old { latest = cond result place self.old.latest } }
+        ensures rises { result ≡ nat_le self.old.latest place }
+        ensures latest { self.new ≡ record self.old { latest = cond result place self.old.latest } }
     {
         if place < self.latest {
             return false;
@@ -100,16 +101,23 @@ impl Turns {
         true
     }
 
+    /// Has room for one more turn.
+    pub fn reserve(&mut self) -> Result<(), AllocError>
+        ensures room { OnOk result (self.new.has_room ≡ true) }
+        ensures same { (self.new.latest ≡ self.old.latest) × (self.new.turns ≡ self.old.turns) }
+    {
+        self.turns.reserve(1)
+    }
+
     /// Keeps the turn of a connection's outbox, at which nothing was put yet.
-    pub fn add(&mut self, number: u64, turn: Turn) -> Result<(), AllocError>
+    pub fn add(&mut self, number: u64, turn: Turn)
+        requires room { self.old.has_room ≡ true }
         requires new { queue_at number self.old.turns ≡ None }
         requires unused { turn.last ≡ 0 }
         ensures latest { self.new.latest ≡ self.old.latest }
-        ensures ok { OnOk result ((n : ℕ) → queue_at n self.new.turns ≡ cond (number == n) (Some turn.queue) (queue_at n self.old.turns)) }
-        ensures err { OnErr result (self.new ≡ self.old) }
+        ensures added { (n : ℕ) → queue_at n self.new.turns ≡ cond (number == n) (Some turn.queue) (queue_at n self.old.turns) }
     {
-        self.turns.push(NumberedTurn { number, turn })?;
-        Ok(())
+        self.turns.push_reserved(NumberedTurn { number, turn });
     }
 
     /// Gives up the turn of a connection's outbox.
