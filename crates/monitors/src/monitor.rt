@@ -39,7 +39,7 @@ fn item_of(alloc: Global, bytes: &Bytes) -> Result<Item, AllocError>
     ensures { IfOk result (λ item. item ≡ message_of bytes.now) }
 {
     let bytes = bytes.clone()?;
-    Item::new(alloc, bytes)
+    Item::new(alloc, bytes, None)
 }
 
 impl<M: Mailbox> Monitor<M> {

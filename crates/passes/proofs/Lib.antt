@@ -8,6 +8,8 @@ pub mod RuleOrder
 pub mod NameOwners
 pub mod Seats
 pub mod Sending
+pub mod Mailboxes
+pub mod Theirs
 pub mod Admitted
 pub mod Adding
 pub mod Delivering

@@ -1,7 +1,6 @@
 -- What the calls of a pass do, under the lock of the bus (own).
-use Rattle.std.specs.Prelude.{◌≡◌, ◌≢◌, ◌⊎◌, ◌+◌, ◌<◌, ℕ, Bool, true, false, List, [], ◌∷◌, ◌++◌, length, Option, None, Result, Ok, Err}
+use Rattle.std.specs.Prelude.{◌≡◌, ◌≢◌, ◌⊎◌, ◌+◌, ◌<◌, ℕ, Bool, true, false, List, [], ◌∷◌, ◌++◌, length, Result, Ok, Err}
 use mathlib.Core.List.{IsPrefix}
-use Rattle.outbox.specs.Seated.{Turning}
 use Rattle.program_table.specs.declared.capacity.Capacity.{Capacity}
 use Rattle.program_table.specs.declared.command.Command.{Command}
 use Rattle.program_table.specs.declared.command.Command.TheVariants.{Limit, Connect, DropOne}
@@ -111,24 +110,22 @@ module _ {M : Type 0} where
   Limits most before (Err error) next = (next.history ≡ before.history) × (((error ≡ errors.Closed) × TakesNoLimit most before) ⊎ EndsBus before error next)
 
   -- why a Connect is Closed, whatever the state says
-  pub data IsPast (v : PassState M) (before : Publication M) (turn : Option Turning) : Type 0 where
+  pub data IsPast (v : PassState M) (before : Publication M) : Type 0 where
     -- the pass was connected already
-    connected : v.connection ≢ 0 → IsPast v before turn
+    connected : v.connection ≢ 0 → IsPast v before
     -- its close was accepted
-    closed : v.is_closed ≡ true → IsPast v before turn
-    -- the outbox's turn was taken by an earlier call
-    taken : turn ≡ None → IsPast v before turn
+    closed : v.is_closed ≡ true → IsPast v before
     -- the bus has ended
-    ended : before.has_ended ≡ true → IsPast v before turn
+    ended : before.has_ended ≡ true → IsPast v before
     -- fewer commands are published than it has seen
-    fewer : length before.history < length v.seen → IsPast v before turn
+    fewer : length before.history < length v.seen → IsPast v before
 
   -- memory for the turn was refused before anything was done
-  abbrev pub IsUntaken : PassState M → Publication M → BusError → PassState M → Publication M → Type 0
-  IsUntaken v before error w next = (error ≡ errors.NoMemory) × (w ≡ v) × (next ≡ before)
+  abbrev pub IsUnreserved : PassState M → Publication M → BusError → PassState M → Publication M → Type 0
+  IsUnreserved v before error w next = (error ≡ errors.NoMemory) × (w ≡ v) × (next ≡ before)
 
   -- the call that makes the pass's connection
-  abbrev pub Connects : PassState M → Publication M → M → Option Turning → Result Reply BusError → PassState M → Publication M → Type 0
-  Connects v before mailbox turn (Ok reply) w next = IsDone v before (Connect mailbox) reply w next × (reply ≡ Connected w.connection) × (w.is_closed ≡ false)
-  Connects v before mailbox turn (Err error) w next =
-      IsRefused v before (Connect mailbox) error w next ⊎ (IsStopped v before w next × (((error ≡ errors.Closed) × IsPast v before turn) ⊎ EndsBus before error next)) ⊎ IsUntaken v before error w next
+  abbrev pub Connects : PassState M → Publication M → M → Result Reply BusError → PassState M → Publication M → Type 0
+  Connects v before mailbox (Ok reply) w next = IsDone v before (Connect mailbox) reply w next × (reply ≡ Connected w.connection) × (w.is_closed ≡ false)
+  Connects v before mailbox (Err error) w next =
+      IsRefused v before (Connect mailbox) error w next ⊎ (IsStopped v before w next × (((error ≡ errors.Closed) × IsPast v before) ⊎ EndsBus before error next)) ⊎ IsUnreserved v before error w next

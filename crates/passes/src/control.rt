@@ -1,6 +1,6 @@
 // What lies under the bus's lock.
 
-ghost use Rattle.std.specs.Prelude.{◌≡◌, ◌<◌, ◌^◌, None, cond, false, is_ok, true, length, MatchBool, MatchResult, IfOk, IfErr, IfSome};
+ghost use Rattle.std.specs.Prelude.{◌≡◌, ◌<◌, ◌^◌, false, true, length, MatchBool, MatchResult, IfOk, IfErr};
 ghost use mathlib.Core.List.{IsPrefix};
 ghost use Rattle.program_table.specs.State.{State};
 ghost use Rattle.program_table.specs.History.{after, is_command_of, IsHistory};
@@ -231,15 +231,15 @@ impl<B: BusBrand, M: Mailbox, R: Wait + Drop> Control<B, M, R> {
         &mut self,
         pass: &mut Pass<B, M>,
         mailbox: M,
-        turn: &mut Option<Turn>,
+        turn: Turn,
     ) -> Result<Reply, BusError>
-        requires { IfSome turn.old (λ t. (t.queue ≡ (M.outbox_of mailbox).queue) × (t.last ≡ 0)) }
-        ensures connects { Connects pass.old self.old mailbox turn.old result pass.new self.new }
-        ensures turn { turn.new ≡ cond (is_ok result) None turn.old }
+        // The turn is that of the mailbox's outbox, and nothing was put by it.
+        requires { (turn.queue ≡ (M.outbox_of mailbox).queue) × (turn.last ≡ 0) }
+        ensures { Connects pass.old self.old mailbox result pass.new self.new }
     {
         let connection = pass.connection();
         let _took = pass.took();
-        if connection != 0 || pass.is_closed() || turn.is_none() {
+        if connection != 0 || pass.is_closed() {
             return Err(BusError::Closed);
         }
         self.turns.reserve()?;
@@ -257,9 +257,7 @@ impl<B: BusBrand, M: Mailbox, R: Wait + Drop> Control<B, M, R> {
             unreachable!()
         };
         pass.count_in(self.publisher.value.front(), number);
-        if let Some(turn) = turn.take() {
-            self.turns.add(number, turn);
-        }
+        self.turns.add(number, turn);
         Ok(Reply::Connected(number))
     }
 }

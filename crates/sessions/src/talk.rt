@@ -88,5 +88,5 @@ fn put_answer<M: Mailbox, W: Wait>(
 fn message_of(alloc: Global, answer: &[u8]) -> Result<Item, AllocError>
     ensures { IfOk result (λ message. message.mark ≡ None) }
 {
-    Item::new(alloc, Bytes::copy_from_slice(alloc, answer)?)
+    Item::new(alloc, Bytes::copy_from_slice(alloc, answer)?, None)
 }

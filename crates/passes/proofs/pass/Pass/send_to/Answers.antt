@@ -1,12 +1,14 @@
+use Rattle.std.proofs.Common.{None, refl}
+use Rattle.passes.specs.declared.standing.Standing.TheVariants as standings
 use Rattle.passes.proofs.Delivering.{its_seat, delivered}
 use Rattle.passes.proofs.pass.Pass.send_to.Goals as goal
 
-pub deliver-answer-requires : goal.deliver-answer-requires
-deliver-answer-requires g c = its_seat _ c.seat_owner-seated.result _ _ _ c.seat_owner-seated.ensures.owner
+pub deliver-answer-requires-clause-has : goal.deliver-answer-requires-clause-has
+deliver-answer-requires-clause-has g c = its_seat _ c.seat_owner-seated.result _ _ _ c.seat_owner-seated.ensures.owner
 
 pub returns-clause-sent : goal.returns-clause-sent
 returns-clause-sent g c =
-    delivered _ g.M.Mailbox.outbox_of c.args.to.now c.args.bytes.now c.args.self.now c.enter.new.self c.take_sender-sender.new.self c.leave.new.self c.put_back.new.self c.in_ok-guard.guard c.state.result.now
+    delivered _ standings.Apart None g.M.Mailbox.outbox_of c.args.to.now c.args.bytes.now c.args.self.now c.enter.new.self c.take_sender-sender.new.self c.leave.new.self c.put_back.new.self c.in_ok-guard.guard c.state.result.now
     c.take_sender-sender.result c.seat_owner-seated.new.sender c.deliver-answer.new.sender c.seat_owner-seated.result c.deliver-answer.result
     (record {
       entered = c.enter.ensures.same;
@@ -17,4 +19,4 @@ returns-clause-sent g c =
       left = c.leave.ensures;
       back = c.put_back.ensures;
     })
-    c.seat_owner-seated.ensures.owner c.seat_owner-seated.ensures.keeps c.seat_owner-seated.ensures.put c.deliver-answer.ensures.keeps c.seats.ensures.fits c.deliver-answer.ensures.sent c.deliver-answer.ensures.err
+    c.seat_owner-seated.ensures.owner c.seat_owner-seated.ensures.keeps c.seat_owner-seated.ensures.put c.deliver-answer.ensures.keeps c.seats.ensures.fits c.deliver-answer.ensures.sent c.deliver-answer.ensures.err refl
