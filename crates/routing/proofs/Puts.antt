@@ -6,7 +6,7 @@ use Rattle.outbox.specs.Items.{Item}
 use Rattle.routing.specs.SenderView.{RecipientSeatView}
 use Rattle.routing.specs.RecipientSeats.{seat_at, is_in, RisesFrom, HasSeat, AllHave}
 use Rattle.routing.specs.Turns.{TurnsView, StandsAt, MayStand, KeepsTurns}
-use Rattle.routing.proofs.Turns.{stands_still, stands_alike}
+use Rattle.routing.proofs.Lending.{stands_still, stands_alike}
 use Rattle.routing.specs.Puts.{end_of, PutThere, PutAt, RoutedAt, PutTo}
 
 end_above : (n : ℕ) (xs : List ℕ) → RisesFrom n xs → n ≤ end_of n xs

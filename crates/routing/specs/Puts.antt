@@ -4,6 +4,7 @@ use Rattle.outbox.specs.Items.{Item}
 use Rattle.outbox.specs.Views.{blank, after_put}
 use Rattle.routing.specs.SenderView.{RecipientView, RecipientSeatView, SenderView}
 use Rattle.routing.specs.RecipientSeats.{seat_at, is_in, RisesFrom, Lists}
+use Rattle.routing.specs.Turns.{TurnView, turn_at}
 
 -- a recipient_seat that was there is as it was; a new one is at a recipient's outbox, and has put nothing
 abbrev pub TakenAt : List RecipientView → ℕ → Option RecipientSeatView → Option RecipientSeatView → Type 0
@@ -35,6 +36,15 @@ pub record PutAt (recipient : ℕ) (item : Item) (put : Bool) (old new : List Re
 abbrev pub RoutedAt : Item → Bool → Bool → Option RecipientSeatView → Option RecipientSeatView → Type 0
 RoutedAt item false refused old new = (refused ≡ false) × (new ≡ old)
 RoutedAt item true refused old new = (s : RecipientSeatView) × (t : RecipientSeatView) × (old ≡ Some s) × (new ≡ Some t) × PutThere item (not refused) s t
+
+-- the turn of the outbox of the connection with this number was used for a put at this place, or for its refusal, and no other
+pub record TurnUsed (n place : ℕ) (old new : List TurnView) : Type 0 where
+  pub before : TurnView
+  pub after : TurnView
+  pub was : turn_at n old ≡ Some before
+  pub queue : after.queue ≡ before.queue
+  pub last : after.last ≤ place
+  pub now : (m : ℕ) → turn_at m new ≡ cond (n == m) (Some after) (turn_at m old)
 
 -- one above the last number, or n
 abbrev pub end_of : ℕ → List ℕ → ℕ

@@ -2,6 +2,7 @@
 
 ghost use Rattle.std.specs.Prelude.{◌≡◌, ◌≤◌, ◌==◌, [], ℕ, None, Some, cond, true, IsErr, IsSomeAnd, OnErr, OnOk, nat_le, position};
 ghost use Rattle.outbox.specs.Views.{Follows, after_put};
+ghost use Rattle.routing.specs.Puts.{TurnUsed};
 ghost use Rattle.routing.specs.Turns.{TurnView, TurnsView, is_turn_of, queue_at, turn_at, AllBefore, KeepsTurns};
 
 use outbox::{Item, Outbox, Seat, Turn};
@@ -147,9 +148,30 @@ impl Turns {
         ensures shut { seat.old.knows_shut ≡ true → IsErr result × (seat.new.knows_shut ≡ true) }
         ensures turns { KeepsTurns self.old self.new }
     {
-        match place_of(self.turns.as_slice(), number) {
-            Some(place) => self.turns[place].put(rt, outbox, seat, item),
-            None => unreachable!(),
-        }
+        put_by(rt, self.turns.as_mut_slice(), number, outbox, seat, item)
+    }
+}
+
+// Puts an item that bears a place at the outbox of the connection, by its turn.
+fn put_by<R: Wait>(
+    rt: &R,
+    turns: &mut [NumberedTurn],
+    number: u64,
+    outbox: &Outbox,
+    seat: &mut Seat,
+    item: Item,
+) -> Result<(), Item>
+    requires place { seat.old.outbox ≡ outbox.now }
+    requires turn { IsSomeAnd (turn_at number turns.old) (λ t. (t.queue ≡ outbox.now.queue) × IsSomeAnd item.place (λ p. t.last ≤ p)) }
+    requires follows { Follows seat.old.view.put item.mark }
+    ensures seat { (seat.new.outbox ≡ seat.old.outbox) × (seat.new.number ≡ seat.old.number) }
+    ensures put { OnOk result (seat.new.view ≡ after_put seat.old.view item) }
+    ensures back { OnErr result ((seat.new.view ≡ seat.old.view) × (seat.new.knows_shut ≡ true)) }
+    ensures shut { seat.old.knows_shut ≡ true → IsErr result × (seat.new.knows_shut ≡ true) }
+    ensures turn { IsSomeAnd item.place (λ p. TurnUsed number p turns.old turns.new) }
+{
+    match place_of(turns, number) {
+        Some(place) => turns[place].put(rt, outbox, seat, item),
+        None => unreachable!(),
     }
 }

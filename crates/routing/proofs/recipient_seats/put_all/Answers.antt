@@ -5,7 +5,7 @@ use Rattle.routing.specs.SenderView.{RecipientSeatView}
 use Rattle.routing.specs.RecipientSeats.{seat_at}
 use Rattle.routing.specs.Puts.{PutAt}
 use Rattle.routing.specs.Turns.{StandsAt}
-use Rattle.routing.proofs.Turns.{turns_kept_on}
+use Rattle.routing.proofs.Lending.{turns_kept_on}
 use Rattle.routing.proofs.Puts.{stands_next, may_put, next_recipient, noted_length}
 use Rattle.routing.proofs.recipient_seats.put_all.Goals as goal
 

@@ -2,7 +2,7 @@ use Rattle.std.proofs.Common.{ℕ, Option, IfSome, sym, subst, ◌∙◌, ◌≡
 use Rattle.outbox.specs.Views.{Follows}
 use Rattle.routing.specs.SenderView.{RecipientSeatView}
 use Rattle.routing.proofs.Places.{found, never_lacks, holds_there, set_there}
-use Rattle.routing.proofs.Turns.{stands_there}
+use Rattle.routing.proofs.Lending.{stands_there}
 use Rattle.routing.proofs.recipient_seats.put_at.Goals as goal
 
 pub put-requires-clause-follows : goal.put-requires-clause-follows

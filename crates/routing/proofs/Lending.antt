@@ -1,5 +1,5 @@
 -- Turns that are added, given up and used.
-use Rattle.std.proofs.Common.{ℕ, ◌≡◌, ◌≤◌, ◌==◌, not, Option, Some, None, IfSome, option_map, Bool, true, false, true≢false, cond, List, [], ◌∷◌, ◌++◌, filter, refl, sym, ap, ◌∙◌, subst, arith, eq-eqb, eqb-true}
+use Rattle.std.proofs.Common.{ℕ, ◌≡◌, ◌≤◌, ◌==◌, not, Option, Some, None, IfSome, IsSomeAnd, option_map, Bool, true, false, true≢false, cond, List, [], ◌∷◌, ◌++◌, filter, refl, sym, ap, ◌∙◌, subst, arith, eq-eqb, eqb-true}
 use Rattle.std.specs.Global.{Global}
 use Rattle.std.specs.Option.{option_or}
 use Rattle.std.proofs.lemmas.List.Folds.{find-append}
@@ -7,12 +7,13 @@ use Rattle.crossbeam_queue.specs.SegTies.{SegId}
 use Rattle.outbox.specs.Items.{Item}
 use Rattle.routing.specs.SenderView.{RecipientSeatView}
 use Rattle.routing.specs.RecipientSeats.{seat_at, is_in}
+use Rattle.routing.specs.Puts.{TurnUsed}
 use Rattle.routing.specs.Turns.{TurnView, TurnsView, is_turn_of, turn_at, queue_at, AllBefore, HasTurn, StandsAt, MayStand, KeepsTurns}
 
-queue_in : Option TurnView → Option (SegId Global)
+abbrev queue_in : Option TurnView → Option (SegId Global)
 queue_in o = option_map (λ (t : TurnView). t.queue) o
 
-IsBefore : ℕ → Option TurnView → Type 0
+abbrev IsBefore : ℕ → Option TurnView → Type 0
 IsBefore latest o = IfSome o (λ t. t.last ≤ latest)
 
 -- a turn that is added after the others
@@ -46,7 +47,7 @@ added_before latest t turns le all n =
 left_at : (number n : ℕ) (turns : List TurnView) → turn_at n (filter (λ (t : TurnView). not (t.number == number)) turns) ≡ cond (number == n) None (turn_at n turns)
 left_at number n [] = nothing (number == n)
   where
-    nothing : (b : Bool) → None ≡ cond b None None
+    nothing : (b : Bool) → None ≡ cond {A = Option TurnView} b None None
     nothing true = refl
     nothing false = refl
 left_at number n (t ∷ ts) = pick (t.number == number) (t.number == n) (number == n) refl refl refl (left_at number n ts)
@@ -142,3 +143,27 @@ turns_kept v = record { latest = refl; queues = λ n. refl }
 
 pub turns_kept_on : (a b c : TurnsView) → KeepsTurns a b → KeepsTurns b c → KeepsTurns a c
 turns_kept_on a b c h k = record { latest = k.latest ∙ h.latest; queues = λ n. k.queues n ∙ h.queues n }
+
+-- what may be put by a turn that is there, where all are before the place
+pub may_use : (n latest : ℕ) (place : Option ℕ) (turns : List TurnView) (queue : SegId Global) → place ≡ Some latest → queue_at n turns ≡ Some queue → AllBefore latest turns
+    → IsSomeAnd (turn_at n turns) (λ t. (t.queue ≡ queue) × IsSomeAnd place (λ p. t.last ≤ p))
+may_use n latest place turns queue at has all = pick (turn_at n turns) has (all n)
+  where
+    pick : (o : Option TurnView) → queue_in o ≡ Some queue → IsBefore latest o → IsSomeAnd o (λ t. (t.queue ≡ queue) × IsSomeAnd place (λ p. t.last ≤ p))
+    pick None e h = absurd (cc)
+    pick (Some t) e h = (cc, (let P : Option ℕ → Type 0 = λ o. IsSomeAnd o (λ p. t.last ≤ p) in subst P (sym at) h))
+
+-- the use of a turn at the latest place
+used_at : (place : Option ℕ) (latest n : ℕ) (old new : List TurnView) → place ≡ Some latest → IsSomeAnd place (λ p. TurnUsed n p old new) → TurnUsed n latest old new
+used_at place latest n old new at h = let P : Option ℕ → Type 0 = λ o. IsSomeAnd o (λ p. TurnUsed n p old new) in subst P at h
+
+pub still_before : (place : Option ℕ) (latest n : ℕ) (old new : List TurnView) → place ≡ Some latest → IsSomeAnd place (λ p. TurnUsed n p old new) → AllBefore latest old → AllBefore latest new
+still_before place latest n old new at h all = let u = used_at place latest n old new at h in used_before latest n u.after old new u.now u.last all
+
+pub same_queues : (place : Option ℕ) (latest n : ℕ) (old new : List TurnView) → place ≡ Some latest → IsSomeAnd place (λ p. TurnUsed n p old new) → (m : ℕ) → queue_at m new ≡ queue_at m old
+same_queues place latest n old new at h = let u = used_at place latest n old new at h in used_queue n u.before u.after old new u.now u.was u.queue
+
+pub used : (place : Option ℕ) (n : ℕ) (old new : List TurnView) (s t : TurnView) → turn_at n old ≡ Some s → t.queue ≡ s.queue → IsSomeAnd place (λ p. t.last ≤ p) → ((m : ℕ) → turn_at m new ≡ cond (n == m) (Some t) (turn_at m old))
+    → IsSomeAnd place (λ p. TurnUsed n p old new)
+used None n old new s t was queue last now = last
+used (Some p) n old new s t was queue last now = record { before = s; after = t; was = was; queue = queue; last = last; now = now }
