@@ -10,6 +10,7 @@ pub mod Seats
 pub mod Sending
 pub mod Mailboxes
 pub mod Theirs
+pub mod ToldFirst
 pub mod Admitted
 pub mod Adding
 pub mod Delivering

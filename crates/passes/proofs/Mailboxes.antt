@@ -1,10 +1,12 @@
 -- Which mailbox each connection of a history was given.
 use Rattle.std.proofs.Common.{◌≡◌, ◌⊎◌, inl, inr, ℕ, zero, suc, ◌+◌, ◌<◌, ◌≤◌, ◌==◌, Bool, true, false, cond, not, List, [], ◌∷◌, ◌++◌, length, fold, Option, Some, None, refl, sym, ap, subst, ◌∙◌, arith, append_assoc, append-nil, length-append}
 use Rattle.std.specs.Prelude.{is_some, option_map, slice_get, get_or}
+use Rattle.std.specs.Option.{option_or}
 use Rattle.std.proofs.lemmas.Bool.{and_parts}
 use Rattle.std.proofs.lemmas.Bool.Decides.{nat_tests}
 use Rattle.std.proofs.lemmas.List.{get_or_append_left}
 use Rattle.std.proofs.lemmas.List.Elements.{filter_map-append}
+use Rattle.std.proofs.lemmas.List.Folds.{find-append}
 use Rattle.std.proofs.lemmas.Option.{slice_get_within, slice_get_read, get_or_from_slice_get}
 use Rattle.std.proofs.Math.Seq.{get_or-append_seam}
 use mathlib.Core.List.{IsPrefix}
@@ -110,19 +112,15 @@ module _ {M : Type 0} where
 
   -- with one more connection there is one more mailbox, its own
   mailbox-push : (n last : ℕ) (new m : M) (cs : List (Connection M)) → mailbox_of n (cs ++ new_connection last new ∷ []) ≡ Some m → (mailbox_of n cs ≡ Some m) ⊎ Makes (Connect new) last n m
-  mailbox-push n last new m [] e = go ((last + 1) == n) refl e
+  mailbox-push n last new m cs e = go (connection_of n cs) ((last + 1) == n) refl (sym (ap (option_map its) (find-append (has_number n) cs (new_connection last new ∷ []))) ∙ e)
     where
-      go : (b : Bool) → ((last + 1) == n) ≡ b → Has n m (new_connection last new) [] b → (None ≡ Some m) ⊎ Makes (Connect new) last n m
-      go true is e = inr (cc, same_number n (last + 1) is)
-      go false is e = inl e
-  mailbox-push n last new m (x ∷ cs) e = go (has_number n x) e (mailbox-push n last new m cs)
-    where
-      all : List (Connection M)
-      all = cs ++ new_connection last new ∷ []
+      its : Connection M → M
+      its c = c.mailbox
 
-      go : (b : Bool) → Has n m x all b → (mailbox_of n all ≡ Some m → (mailbox_of n cs ≡ Some m) ⊎ Makes (Connect new) last n m) → Has n m x cs b ⊎ Makes (Connect new) last n m
-      go true e later = inl e
-      go false e later = later e
+      go : (o : Option (Connection M)) (b : Bool) → ((last + 1) == n) ≡ b → option_map its (option_or o (cond b (Some (new_connection last new)) None)) ≡ Some m → (option_map its o ≡ Some m) ⊎ Makes (Connect new) last n m
+      go (Some c) b is e = inl e
+      go None true is e = inr (cc, same_number n (last + 1) is)
+      go None false is e = inl e
 
   -- each mailbox after a command was there before it, or is that of the connection that it makes
   there-effect : (s : State M) (c : Command M) (n : ℕ) (m : M) → mailbox_of n (effect s c).connections ≡ Some m

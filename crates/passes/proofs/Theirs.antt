@@ -1,6 +1,6 @@
 -- That a pass's seats and the turns under the lock are at the outboxes of the connections whose numbers they have.
 use Rattle.std.proofs.Common.{◌≡◌, ◌⊎◌, inl, inr, ℕ, ◌+◌, ◌<◌, ◌≤◌, ◌==◌, Bool, true, false, true≢false, cond, List, [], ◌∷◌, ◌++◌, Option, Some, None, IfSome, IsSomeAnd, option_map, refl, sym, ap, subst, ◌∙◌, arith, eq-eqb, eqb-true, ne_eqb}
-use Rattle.std.specs.Prelude.{is_some, if◌then◌else◌, Result, Ok, Err, IfOk}
+use Rattle.std.specs.Prelude.{is_some, if◌then◌else◌, Result, Ok, Err, IfOk, MatchOption}
 use Rattle.std.specs.Global.{Global}
 use mathlib.Core.List.{IsPrefix}
 use Rattle.crossbeam_queue.specs.SegTies.{SegId}
@@ -14,18 +14,25 @@ use Rattle.program_table.specs.History.{after, is_command_of, IsHistory}
 use Rattle.program_table.specs.State.{State, opening}
 use Rattle.published.specs.Publication.{with_next}
 use Rattle.routing.specs.SenderView.{RecipientSeatView, SenderView}
-use Rattle.routing.specs.RecipientSeats.{seat_at, outbox_at, outbox_id, written, all_written, is_in}
+use Rattle.routing.specs.RecipientSeats.{seat_at, outbox_at, outbox_id, written, all_written, is_in, HasSeat, Keeps}
 use Rattle.routing.specs.Turns.{TurnView, TurnsView, queue_at, HasTurn, StandsAt, MayStand, KeepsTurns}
 use Rattle.routing.proofs.Routes.{written_at}
 use Rattle.passes.specs.Mailboxes.{mailbox_given}
+use Rattle.passes.specs.NameOwners.{IsOwner}
+use Rattle.passes.specs.Passes.{PassState}
 use Rattle.passes.specs.Routes.{IsOutboxOf}
 use Rattle.passes.specs.Seats.{KeepsThere}
 use Rattle.passes.specs.Theirs.{IsGiven, AreTheirs, HaveTurns}
+use Rattle.passes.proofs.Seats.{kept}
 use Rattle.passes.proofs.Mailboxes.{given_later, given_there, there_before, last_grows, below_last, gone_closed, connect_last}
 
 written_outbox : (o : Option RecipientSeatView) → outbox_id (option_map written o) ≡ outbox_id o
 written_outbox None = refl
 written_outbox (Some s) = refl
+
+stands : (place : Option ℕ) (n : ℕ) (recipient_seats : List RecipientSeatView) (turns : TurnsView) → IfSome place (λ p. p ≡ turns.latest) → HasTurn n recipient_seats turns → StandsAt place n recipient_seats turns
+stands None n recipient_seats turns at has = tt
+stands (Some p) n recipient_seats turns at has = (at, has)
 
 module _ {M : Type 0} where
   given_still : (outbox_of : M → OutboxId) (old new : List (Command M)) (n : ℕ) (outbox : OutboxId) → IsPrefix old new → IsGiven outbox_of old n outbox → IsGiven outbox_of new n outbox
@@ -75,6 +82,7 @@ module _ {M : Type 0} where
       → AreTheirs outbox_of l recipient_seats → HaveTurns outbox_of l turns.turns → HasTurn n recipient_seats turns
   have_turn outbox_of l n recipient_seats turns legal there theirs have = go (seat_at n recipient_seats) refl
     where
+      its : (m : M) × (mailbox_of n (after l).connections ≡ Some m)
       its = its_mailbox n (after l).connections there
 
       given : (outbox : OutboxId) → IsGiven outbox_of l n outbox → outbox_of its.0 ≡ outbox
@@ -161,3 +169,34 @@ module _ {M : Type 0} where
       none : (n : ℕ) → (after (l ++ Close number ∷ [])).last_connection < n → (b : Bool) → (number == n) ≡ b → queue_at n new ≡ None
       none n lt true is = left n ∙ ap (λ b. cond b None (queue_at n old)) is
       none n lt false is = left n ∙ ap (λ b. cond b None (queue_at n old)) is ∙ have.given n lt
+
+  -- the seats of a sender that a pass gave away, after it left
+  pub theirs_sent : (outbox_of : M → OutboxId) (v u q : PassState M) (l : List (Command M)) (s : State M) (old mid new : SenderView) → u ≡ v → IsPrefix v.seen l → IsHistory l → s ≡ after l → q.seen ≡ l
+      → AreTheirs outbox_of u.seen old.recipient_seats → KeepsThere outbox_of s old mid → Keeps [] mid new → AreTheirs outbox_of q.seen new.recipient_seats
+  theirs_sent outbox_of v u q l s old mid new entered begins legal is left theirs keeps after_it =
+      let V : PassState M → Type 0 = λ x. AreTheirs outbox_of x.seen old.recipient_seats in
+      let L : List (Command M) → Type 0 = λ x. AreTheirs outbox_of x new.recipient_seats in
+      let first = theirs_kept outbox_of l s old mid legal is keeps (theirs_later outbox_of v.seen l old.recipient_seats begins (subst V entered theirs)) in
+      subst L (sym left) (theirs_kept outbox_of l s mid new legal is (kept outbox_of s mid new after_it) first)
+
+  -- a message at the place may be put at the outbox of a connection that is there
+  pub stands_for : (outbox_of : M → OutboxId) (l : List (Command M)) (n : ℕ) (place : Option ℕ) (recipient_seats : List RecipientSeatView) (turns : TurnsView) → IfSome place (λ p. p ≡ turns.latest) → IsHistory l → is_connected n (after l).connections ≡ true
+      → AreTheirs outbox_of l recipient_seats → HaveTurns outbox_of l turns.turns → StandsAt place n recipient_seats turns
+  stands_for outbox_of l n place recipient_seats turns at legal there theirs have = stands place n recipient_seats turns at (have_turn outbox_of l n recipient_seats turns legal there theirs have)
+
+  -- of the owner that was found
+  pub stands_owner : (E : Type 0) (outbox_of : M → OutboxId) (l : List (Command M)) (s : State M) (to : List ℕ) (place : Option ℕ) (recipient_seats : List RecipientSeatView) (turns : TurnsView) (found : Result (Option ℕ) E) → IfSome place (λ p. p ≡ turns.latest) → IsHistory l → s ≡ after l
+      → AreTheirs outbox_of l recipient_seats → HaveTurns outbox_of l turns.turns
+      → IfOk found (λ owner. MatchOption owner ((n : ℕ) → IsOwner s to n → ⊥) (λ n. IsOwner s to n × HasSeat n recipient_seats)) → IfOk found (λ owner. IfSome owner (λ n. StandsAt place n recipient_seats turns))
+  stands_owner E outbox_of l s to place recipient_seats turns (Ok None) at legal is theirs have owner = tt
+  stands_owner E outbox_of l s to place recipient_seats turns (Ok (Some n)) at legal is theirs have owner =
+      let P : State M → Type 0 = λ x. is_connected n x.connections ≡ true in
+      stands_for outbox_of l n place recipient_seats turns at legal (subst P is owner.0.1) theirs have
+  stands_owner E outbox_of l s to place recipient_seats turns (Err e) at legal is theirs have owner = tt
+
+  -- of all recipients
+  pub stands_all : (outbox_of : M → OutboxId) (l : List (Command M)) (s : State M) (recipients : List ℕ) (place : Option ℕ) (recipient_seats : List RecipientSeatView) (turns : TurnsView) → IfSome place (λ p. p ≡ turns.latest) → IsHistory l → s ≡ after l
+      → AreTheirs outbox_of l recipient_seats → HaveTurns outbox_of l turns.turns → ((n : ℕ) → is_in n recipients ≡ true → is_connected n s.connections ≡ true) → MayStand place recipients recipient_seats turns
+  stands_all outbox_of l s recipients place recipient_seats turns at legal is theirs have there n listed =
+      let P : State M → Type 0 = λ x. is_connected n x.connections ≡ true in
+      stands_for outbox_of l n place recipient_seats turns at legal (subst P is (there n listed)) theirs have

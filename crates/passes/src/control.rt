@@ -242,11 +242,11 @@ impl<B: BusBrand, M: Mailbox, R: Wait + Drop> Control<B, M, R> {
         if connection != 0 || pass.is_closed() {
             return Err(BusError::Closed);
         }
+        self.tell(pass)?;
+        let _commands = self.state().commands();
         if self.turns.reserve().is_err() {
             return Err(BusError::NoMemory);
         }
-        self.tell(pass)?;
-        let _commands = self.state().commands();
         let reply = match self.publisher.value.publish(Command::Connect(mailbox)) {
             Ok(reply) => reply,
             Err(PublishError::NoMemory) => return Err(BusError::NoMemory),

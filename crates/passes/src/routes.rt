@@ -1,9 +1,10 @@
 // Broadcasts of a pass.
 
-ghost use Rattle.std.specs.Prelude.{◌≡◌, ◌⊎◌, [], IfErr, IfOk, OnOk, MatchResult};
-ghost use Rattle.routing.specs.RecipientSeats.{RisesFrom, AllHave, Keeps, Routed, Unrouted};
+ghost use Rattle.std.specs.Prelude.{◌≡◌, ◌⊎◌, [], ℕ, IfErr, IfOk, OnOk, MatchResult};
+ghost use Rattle.routing.specs.RecipientSeats.{RisesFrom, AllHave, Keeps, Routed, Unrouted, all_written};
 ghost use Rattle.routing.specs.Turns.{KeepsTurns, MayStand};
 ghost use Rattle.passes.specs.Passes.{IsOpenTo};
+ghost use Rattle.passes.specs.Sending.{SendsFor, count_in, recipient_seats_in};
 ghost use Rattle.passes.specs.Routes.{HasRouted, IsUnrouted, pass_written};
 
 use crate::error::BusError;
@@ -114,8 +115,17 @@ impl<B: BusBrand, M: Mailbox> Pass<B, M> {
     pub fn push_out<W: Wait>(&mut self, rt: &W)
         ensures { self.new ≡ pass_written self.old }
     {
-        if let Some(sender) = &mut self.sender {
-            sender.push_out(rt);
-        }
+        push_out(rt, &mut self.sender);
+    }
+}
+
+// Has a sender, if there is one, write out what it put.
+fn push_out<M: Mailbox, W: Wait>(rt: &W, sender: &mut Option<Sender<M>>)
+    ensures seats { recipient_seats_in sender.new ≡ all_written (recipient_seats_in sender.old) }
+    ensures count { count_in sender.new ≡ count_in sender.old }
+    ensures stays { (connection : ℕ) → SendsFor connection sender.old → SendsFor connection sender.new }
+{
+    if let Some(sender) = sender {
+        sender.push_out(rt);
     }
 }

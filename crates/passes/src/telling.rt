@@ -11,7 +11,7 @@ use crate::pass::Pass;
 use crate::reading::Source;
 use crate::route_lists::RouteLists;
 use crate::routes::route;
-use crate::seating::{seat_owner, seat_recipients};
+use crate::seating::{seat_owner, seat_those_there};
 use crate::standing::Standing;
 use crate::unicasts::{Sent, deliver};
 use bytes::Bytes;
@@ -66,7 +66,7 @@ impl<B: BusBrand, M: Mailbox, R: Wait + Drop> Control<B, M, R> {
         self.tell(pass)?;
         let mut sender = pass.take_sender(alloc);
         let from = source.sender(pass.connection());
-        let seated = seat_recipients(
+        let seated = seat_those_there(
             self.state(),
             view,
             from,
@@ -74,9 +74,6 @@ impl<B: BusBrand, M: Mailbox, R: Wait + Drop> Control<B, M, R> {
             &mut lists.marks,
             &mut lists.recipients,
         );
-        // These calls' contracts say that entries are of connections, so that each recipient has its turn.
-        let _ = view.raw();
-        let _ = self.state().entries_for(view, None);
         let answer = route(
             rt,
             alloc,
