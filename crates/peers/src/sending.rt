@@ -20,7 +20,7 @@ use bus_messages::{Bytes, ErrorName, Exceeded, UniqueName};
 use message_build::{StampError, stamp};
 use message_view::{Kind, View};
 use outbox::Counts;
-use router::{BusBrand, BusError, Mailbox, RouteLists, Sent, Source};
+use router::{BusBrand, BusError, Mailbox, RouteLists, Sent, Source, Standing};
 use std::alloc::Global;
 use std::sync::Wait;
 
