@@ -35,10 +35,10 @@ where
 impl<B: BusBrand> Client<B> {
     /// A client that has said nothing, on a bus that says this of itself.
     pub(crate) fn new(alloc: Global, identity: Identity) -> Result<Client<B>, AllocError> {
-        let mailbox = PlainMailbox::new(alloc)?;
+        let (mailbox, turn) = PlainMailbox::new(alloc)?;
         let taker = Taker::new(mailbox.outbox())?;
         Ok(Client {
-            session: Some(Session::admitting(alloc, identity, Admission::any(), mailbox)),
+            session: Some(Session::admitting(alloc, identity, Admission::any(), mailbox, turn)),
             taker,
             received: Received::new(alloc),
             subject: None,

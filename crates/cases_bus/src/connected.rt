@@ -101,8 +101,7 @@ impl<'a, B: BusBrand, R: Wait> Connected<'a, B, R> {
     }
 
     fn connect(&mut self) -> Result<Reply, Unanswered> {
-        let mailbox = PlainMailbox::new(self.alloc)?;
-        let (pass, reply) = connect(self.rt, &self.bus, mailbox)?;
+        let (pass, reply) = connect(self.rt, self.alloc, &self.bus)?;
         self.last = pass.connection();
         match self.passes.insert(self.last, pass) {
             Ok(_) => Ok(reply),
@@ -191,11 +190,12 @@ impl<'a, B: BusBrand, R: Wait> Connected<'a, B, R> {
 
 fn connect<B: BusBrand, R: Wait>(
     rt: &R,
+    alloc: Global,
     bus: &Bus<B, PlainMailbox, &R>,
-    mailbox: PlainMailbox,
 ) -> Result<(Pass<B, PlainMailbox>, Reply), Unanswered> {
+    let (mailbox, turn) = PlainMailbox::new(alloc)?;
     let mut pass = bus.pass(rt)?;
-    match bus.connect(rt, &mut pass, mailbox) {
+    match bus.connect(rt, &mut pass, mailbox, turn) {
         Ok(reply) => Ok((pass, reply)),
         Err(error) => {
             give_back(rt, bus, pass);

@@ -1,13 +1,13 @@
 // A connection as all threads see it.
 
-ghost use Rattle.std.specs.Prelude.{◌≡◌};
+ghost use Rattle.std.specs.Prelude.{◌≡◌, IfOk};
 ghost use Rattle.std.specs.Arc.{arc_value};
 
 use crate::worker_handle::WorkerHandle;
 use crate::writer::Writer;
 use endpoints::Link;
 use mio::Token;
-use outbox::{Outbox, Room};
+use outbox::{Outbox, Room, Turn};
 use program_table::Handle;
 use routing::Mailbox;
 use sole_writer::SoleWriter;
@@ -39,20 +39,21 @@ impl Model for SocketMailbox {
 }
 
 impl SocketMailbox {
-    /// The mailbox of a connection, in whose outbox this much may wait.
+    /// The mailbox of a connection, in whose outbox this much may wait, and the outbox's turn.
     pub fn new(
         alloc: Global,
         link: Arc<Link>,
         worker: Arc<WorkerHandle>,
         token: Token,
         room: Room,
-    ) -> Result<SocketMailbox, AllocError> {
-        let outbox = Outbox::with_room(alloc, room)?;
+    ) -> Result<(SocketMailbox, Turn), AllocError>
+        ensures { IfOk result (λ r. (r.1.queue ≡ r.0.queue) × (r.1.last ≡ 0)) }
+    {
+        let (outbox, turn) = Outbox::with_turn(alloc, room)?;
         let writer = Writer::new(alloc, &outbox, link, worker, token)?;
         let writer = SoleWriter::new(writer);
-        Ok(SocketMailbox {
-            shared: Arc::new(alloc, OutboxAndWriter { outbox, writer })?,
-        })
+        let shared = Arc::new(alloc, OutboxAndWriter { outbox, writer })?;
+        Ok((SocketMailbox { shared }, turn))
     }
 
     /// The poll told the connection's worker of room.

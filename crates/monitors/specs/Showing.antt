@@ -13,7 +13,7 @@ is_refused _ = false
 
 -- a message that an outbox gives out at once
 abbrev pub message_of : List ℕ → Item
-message_of bytes = record { bytes = bytes; mark = None; hold = None }
+message_of bytes = record { bytes = bytes; mark = None; place = None; hold = None }
 
 -- the monitor after a message was put into its outbox
 abbrev pub with_put : Item → Watching → Watching

@@ -39,7 +39,7 @@ fn item_of(alloc: Global, bytes: &Bytes) -> Result<Item, AllocError>
     ensures { IfOk result (λ item. item ≡ message_of bytes.now) }
 {
     let bytes = bytes.clone()?;
-    Item::new(alloc, bytes)
+    Item::new(alloc, bytes, None)
 }
 
 impl<M: Mailbox> Monitor<M> {
@@ -86,7 +86,7 @@ impl<M: Mailbox> Monitor<M> {
 
     /// Puts a message, and has it written out.
     fn put<W: Wait>(&mut self, rt: &W, message: Item) -> Shown
-        requires { message.mark ≡ None }
+        requires { (message.mark ≡ None) × (message.place ≡ None) }
         ensures { PutThere message result self.old self.new }
     {
         let put = self.mailbox.outbox().put(rt, &mut self.seat, message);

@@ -2,8 +2,11 @@
 use Rattle.std.proofs.Common.{ℕ, ◌≡◌, is_some, Option, Some, None, List, [], ◌∷◌, ◌++◌, refl, sym, ap, ◌∙◌, subst}
 use Rattle.outbox.specs.Items.{Item}
 use Rattle.outbox.specs.Counts.{Put, Rises, of_seat, counts_of, InOrder}
+use Rattle.outbox.specs.Places.{places_of, Climbs, put_items, PlacesRise}
 use Rattle.outbox.specs.Seated.{Seated}
 use Rattle.outbox.specs.Taken.{Taking, front_of, deliveries, EndsWith}
+use Rattle.std.proofs.lemmas.List.{map-append}
+use Rattle.outbox.proofs.Placing.{places_append, climbs_front}
 use Rattle.outbox.proofs.Rising.{rises_front, counts_append, of_append}
 
 front_snoc : (xs : List Put) (x : Put) → front_of (xs ++ x ∷ []) ≡ xs
@@ -38,3 +41,15 @@ held_last t seat (Some other) item is e ends =
     let last = ends_with other seat.view.taken ends in
     let front : front_of seat.view.taken ≡ deliveries t = ap deliveries is in
     (last.0, last.1 ∙ ap (λ l. l ++ (last.0, other) ∷ []) front ∙ ap (λ i. deliveries t ++ (last.0, i) ∷ []) same)
+
+places_front : (xs : List Put) (x : Put) → PlacesRise (xs ++ x ∷ []) → PlacesRise xs
+places_front xs x rise =
+    let C : List ℕ → Type 0 = λ l. Climbs 0 l in
+    let parts : places_of (put_items (xs ++ x ∷ [])) ≡ places_of (put_items xs) ++ places_of (put_items (x ∷ [])) =
+    ap places_of (map-append (λ (p : Put). p.1) xs (x ∷ [])) ∙ places_append (put_items xs) (put_items (x ∷ [])) in
+    climbs_front 0 (places_of (put_items xs)) (places_of (put_items (x ∷ []))) (subst C parts rise)
+
+-- and its places don't go back
+pub places_but_held : (front taken : List Put) (item : Item) → (by : ℕ) × (taken ≡ front ++ (by, item) ∷ []) → PlacesRise taken → PlacesRise (front_of taken)
+places_but_held front taken item (by, e) rise =
+    let P : List Put → Type 0 = λ l. PlacesRise l in subst P (sym (all_but_held front taken item (by, e))) (places_front front (by, item) (subst P e rise))

@@ -5,8 +5,10 @@ use Rattle.std.proofs.lemmas.List.{map-append}
 use Rattle.outbox.specs.Items.{Item}
 use Rattle.outbox.specs.declared.rule.SeatView.{SeatView}
 use Rattle.outbox.specs.Counts.{Put, Take, of_seat, Rises, count_from, counts_from, Among}
+use Rattle.outbox.specs.Places.{places_of, Climbs, PlacesRise}
 use Rattle.outbox.specs.Views.{blank, item_of, put_of, seat_known, Merged, PutAlone}
 use Rattle.outbox.specs.Weights.{weight, put_in_all, taken_in_all}
+use Rattle.outbox.proofs.Steps.{places_taken}
 use Rattle.outbox.proofs.Rising.{of_append, among_of, among_more, among_items, taken_among, among_rises_from, rises_from, rises_front, from_append}
 
 pub taken_put : (items : List Item) (views : List SeatView) (taker putter : ℕ) → Merged items views → Among (of_seat putter (seat_known views taker).taken) (seat_known views putter).put
@@ -163,3 +165,12 @@ balanced f items views h =
     sym (weigh_seats g n h.gone (below n h.gone past_taken)) ∙ total_same (λ k. weight g (of_seat k h.gone)) (λ k. weight g (seat_known views k).taken) n (λ k. ap (weight g) (h.fits k).taken) ∙ taken_total f views in
     let line : weight g h.line ≡ weight f items = weigh_items f h.line ∙ ap (weight f) h.stands in
     put ∙ weigh_append g (map put_of h.gone) h.line ∙ ap (λ (m : ℕ). m + weight g h.line) (weigh_gone f h.gone ∙ taken) ∙ ap (λ (m : ℕ). taken_in_all f views + m) line
+
+-- places never go back, whoever put them
+pub places_all : (items : List Item) (views : List SeatView) (h : Merged items views) → Climbs 0 (places_of (map item_of (map put_of h.gone) ++ items))
+places_all items views h =
+    let whole : map item_of (map put_of h.gone ++ h.line) ≡ map item_of (map put_of h.gone) ++ items = map-append item_of (map put_of h.gone) h.line ∙ ap (λ (l : List Item). map item_of (map put_of h.gone) ++ l) h.stands in
+    let P : List Item → Type 0 = λ l. Climbs 0 (places_of l) in subst P whole h.places.climbs
+
+pub places_each : (items : List Item) (views : List SeatView) (taker : ℕ) → Merged items views → PlacesRise (seat_known views taker).taken
+places_each items views taker h = places_taken taker (seat_known views taker).taken h.gone h.line (h.fits taker).taken h.places.climbs

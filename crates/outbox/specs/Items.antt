@@ -7,10 +7,12 @@ pub record Hold : Type 0 where
   pub word : TableId
   pub event : ℕ
 
--- a message's bytes; its mark, if it is a broadcast; and until when it is held, if it is
+-- a message's bytes; its mark, if it is a broadcast; its place in the history, if it tells of names; and until when it is
+-- held, if it is
 pub record Item : Type 0 where
   pub bytes : List ℕ
   pub mark : Option (ℕ × ℕ)
+  pub place : Option ℕ
   pub hold : Option Hold
 
 -- a message, and how many puts of it are left

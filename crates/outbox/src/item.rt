@@ -14,12 +14,14 @@ use std::sync::Arc;
 struct Letter {
     bytes: Bytes,
     mark: Option<(u64, u64)>,
+    place: Option<u64>,
     // None if it may be given out at once.
     hold: Option<Hold>,
 }
 
 /// A share of a message, which is one pointer. A broadcast has a mark: its origin, which is the connection that sent it,
-/// and its count among the origin's broadcasts, from 1 on. A unicast message has none.
+/// and its count among the origin's broadcasts, from 1 on. A unicast message has none. A message that tells of names bears a
+/// place: the number of the command of the bus's history at which it stands.
 #[derive(Drop)]
 pub struct Item {
     letter: Arc<Letter, Global>,
@@ -31,26 +33,35 @@ impl Model for Item {
 
     ghost Value = { Item };
 
-    ghost view = { λ i. record { bytes = (arc_value i.letter).bytes; mark = (arc_value i.letter).mark; hold = (arc_value i.letter).hold } };
+    ghost view = { λ i. record { bytes = (arc_value i.letter).bytes; mark = (arc_value i.letter).mark; place = (arc_value i.letter).place; hold = (arc_value i.letter).hold } };
 }
 
 impl Item {
-    /// A message that an outbox gives out as soon as it holds it, and that is no broadcast.
-    pub fn new(alloc: Global, bytes: Bytes) -> Result<Item, AllocError>
-        ensures { IfOk result (λ item. item ≡ record { bytes = bytes; mark = None; hold = None }) }
+    /// A message that an outbox gives out as soon as it holds it, and that is no broadcast. It bears this place, if any.
+    pub fn new(alloc: Global, bytes: Bytes, place: Option<u64>) -> Result<Item, AllocError>
+        ensures { IfOk result (λ item. item ≡ record { bytes = bytes; mark = None; place = place; hold = None }) }
     {
-        Item::of(alloc, bytes, None, None)
+        Item::of(alloc, bytes, None, place, None)
     }
 
     pub(crate) fn of(
         alloc: Global,
         bytes: Bytes,
         mark: Option<(u64, u64)>,
+        place: Option<u64>,
         hold: Option<Hold>,
     ) -> Result<Item, AllocError>
-        ensures { IfOk result (λ item. item ≡ record { bytes = bytes; mark = mark; hold = hold }) }
+        ensures { IfOk result (λ item. item ≡ record { bytes = bytes; mark = mark; place = place; hold = hold }) }
     {
-        let letter = Arc::new(alloc, Letter { bytes, mark, hold })?;
+        let letter = Arc::new(
+            alloc,
+            Letter {
+                bytes,
+                mark,
+                place,
+                hold,
+            },
+        )?;
         Ok(Item { letter })
     }
 
@@ -74,6 +85,13 @@ impl Item {
     {
         let letter: &Letter = &self.letter;
         letter.mark
+    }
+
+    pub fn place(&self) -> Option<u64>
+        ensures { result ≡ self.now.place }
+    {
+        let letter: &Letter = &self.letter;
+        letter.place
     }
 
     pub(crate) fn hold(&self) -> Option<&Hold>

@@ -8,6 +8,7 @@ ghost use Rattle.outbox.specs.Items.{Item};
 ghost use Rattle.outbox.specs.declared.rule.ReleaseView.{ReleaseView};
 ghost use Rattle.outbox.specs.declared.rule.SeatView.{SeatView};
 ghost use Rattle.outbox.specs.Counts.{Among, of_seat, Rises, counts_from};
+ghost use Rattle.outbox.specs.Places.{Climbs, places_of, PlacesRise};
 ghost use Rattle.outbox.specs.Released.{Counts, sender_at};
 ghost use Rattle.outbox.specs.Views.{Merged, PutAlone, item_of, put_of, seat_known};
 ghost use Rattle.outbox.specs.Weights.{weight, put_in_all, taken_in_all};
@@ -28,6 +29,12 @@ pub fn put_is_taken_or_stands()
 pub fn in_order_of_each_origin()
     ensures all { (items : List Item) (views : List SeatView) (origin seat : ℕ) (h : Merged items views) → PutAlone origin seat views → Rises 0 (counts_from origin (map item_of (map put_of h.gone) ++ items)) }
     ensures each { (items : List Item) (views : List SeatView) (origin seat taker : ℕ) → Merged items views → PutAlone origin seat views → Rises 0 (counts_from origin (map item_of (seat_known views taker).taken)) }
+{}
+
+/// The places in what was taken and then stands never go back, whoever put them, and so do those that each seat took.
+pub fn places_rise()
+    ensures all { (items : List Item) (views : List SeatView) (h : Merged items views) → Climbs 0 (places_of (map item_of (map put_of h.gone) ++ items)) }
+    ensures each { (items : List Item) (views : List SeatView) (taker : ℕ) → Merged items views → PlacesRise (seat_known views taker).taken }
 {}
 
 /// What a seat at a sender's word knows to be released is released: of an event that the sender still holds nobody can show

@@ -16,10 +16,12 @@ mod tally;
 
 pub use handle::Outbox;
 pub use item::Item;
-pub use laws::{in_order_of_each_origin, known_is_released, put_is_taken_or_stands, taken_was_put};
+pub use laws::{
+    in_order_of_each_origin, known_is_released, places_rise, put_is_taken_or_stands, taken_was_put,
+};
 pub use releases::{Releases, Shares};
 pub use room::{ROOM, Room};
 pub use rule::{ReleaseView, SeatView};
-pub use seats::Seat;
+pub use seats::{Seat, Turn};
 pub use taker::{Delivery, Taker};
 pub use tally::{Counts, Tally};

@@ -174,15 +174,16 @@ impl Releases {
         alloc: Global,
         bytes: Bytes,
         mark: Option<(u64, u64)>,
+        place: Option<u64>,
         puts: usize,
     ) -> Result<Shares, AllocError>
         requires { self.old.is_putting ≡ false }
         ensures ok { OnOk result (self.new ≡ record self.old { is_open = true; is_putting = true }) }
-        ensures shares { IfOk result (λ shares. shares ≡ record { message = record { bytes = bytes; mark = mark; hold = hold_of self.old }; left = puts }) }
+        ensures shares { IfOk result (λ shares. shares ≡ record { message = record { bytes = bytes; mark = mark; place = place; hold = hold_of self.old }; left = puts }) }
         ensures err { OnErr result (self.new ≡ self.old) }
     {
         let hold = self.hold()?;
-        let message = Item::of(alloc, bytes, mark, hold)?;
+        let message = Item::of(alloc, bytes, mark, place, hold)?;
         let shares = Shares::new(alloc, message, puts)?;
         self.is_open = true;
         self.is_putting = true;

@@ -4,14 +4,17 @@ ghost use Rattle.std.specs.Prelude.{false};
 
 use crate::item::Item;
 use atomic_table::{Play, TableRule};
-use crossbeam_queue::protocol::{Lesson, Outcome, Protocol};
+use crossbeam_queue::protocol::{Join, Lesson, Outcome, Protocol, Split};
 use std::collections::LinkedList;
 
-/// What a seat knows: the items that it put, and the items that it took, each with the number of the seat that put it.
-/// Contracts alone speak of it; no value of it is made.
+/// What a seat knows: the items that it put, and the items that it took, each with the number of the seat that put it; the
+/// last place that anybody put, if it has the outbox's turn; and whether the turn was made of it. Contracts alone speak of
+/// it; no value of it is made.
 pub struct SeatView {
     pub put: LinkedList<Item>,
     pub taken: LinkedList<(u64, Item)>,
+    pub turn: Option<u64>,
+    pub minted: bool,
 }
 
 pub struct Merging;
@@ -37,6 +40,16 @@ impl Lesson<Item, SeatView> for Puts {
     ghost fact = { λ v items. Unit {0} };
 }
 
+/// As `Puts`, of an item that bears a place.
+pub struct PutsPlaced;
+
+impl Outcome<Item, SeatView> for PutsPlaced {
+    ghost use Rattle.std.specs.Prelude.{◌≡◌};
+    ghost use Rattle.outbox.specs.Views.{after_placed};
+
+    ghost then = { λ v x w. w ≡ after_placed v x };
+}
+
 pub struct Takes;
 
 impl Outcome<Item, SeatView> for Takes {
@@ -47,6 +60,37 @@ impl Outcome<Item, SeatView> for Takes {
 
 impl Lesson<Item, SeatView> for Takes {
     ghost fact = { λ v items. Unit {0} };
+}
+
+/// The first seat makes the turn.
+pub struct Mints;
+
+impl Split<SeatView> for Mints {
+    ghost use Rattle.outbox.specs.Views.{minter, turn_at};
+
+    ghost left = { λ v. minter };
+
+    ghost right = { λ v. turn_at 0 };
+}
+
+/// A seat takes the turn in, and gives it back.
+pub struct Lends;
+
+impl Join<SeatView> for Lends {
+    ghost use Rattle.outbox.specs.Views.{blank, with_turn};
+
+    ghost both = { λ v u. with_turn v u.turn };
+
+    ghost spent = { blank };
+}
+
+impl Split<SeatView> for Lends {
+    ghost use Rattle.std.specs.Prelude.{None};
+    ghost use Rattle.outbox.specs.Views.{blank, with_turn};
+
+    ghost left = { λ v. with_turn v None };
+
+    ghost right = { λ v. with_turn blank v.turn };
 }
 
 /// The rule of the word that says whether the outbox is shut.

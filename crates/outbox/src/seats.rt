@@ -17,11 +17,30 @@ pub struct Seat {
 impl Model for Seat {
     ghost use Rattle.std.specs.Prelude.{◌≡◌, [], None};
     ghost use Rattle.outbox.specs.Counts.{InOrder};
+    ghost use Rattle.outbox.specs.Places.{PlacesRise};
     ghost use Rattle.outbox.specs.Seated.{Seated};
 
     ghost Value = { Seated };
 
     ghost view = { λ s. record { outbox = record { queue = record { web = s.pass.web; heap = s.pass.heap }; word = s.word.table_id }; number = s.pass.id; view = s.pass.me.view.client; knows_shut = s.word.me.0 } };
 
-    ghost invariant = { λ s. (s.pass.me.hand ≡ None) × (s.pass.me.spare ≡ None) × (s.word.me.1 ≡ []) × InOrder s.pass.me.view.client.taken };
+    ghost invariant = { λ s. (s.pass.me.hand ≡ None) × (s.pass.me.spare ≡ None) × (s.word.me.1 ≡ []) × InOrder s.pass.me.view.client.taken × PlacesRise s.pass.me.view.client.taken × (s.pass.me.view.client.turn ≡ None) };
+}
+
+/// The turn of an outbox: who has it puts what bears a place. There is one, it takes up no bytes, and it can't be copied.
+#[derive(Drop)]
+pub struct Turn {
+    pub(crate) pass: SegPass<Item, SeatView, Global>,
+}
+
+impl Model for Turn {
+    ghost use Rattle.std.specs.Prelude.{◌≡◌, None};
+    ghost use Rattle.outbox.specs.Seated.{Turning};
+    ghost use Rattle.outbox.specs.Views.{last_in, turn_at};
+
+    ghost Value = { Turning };
+
+    ghost view = { λ t. record { queue = record { web = t.pass.web; heap = t.pass.heap }; last = last_in t.pass.me.view.client.turn } };
+
+    ghost invariant = { λ t. (t.pass.me.hand ≡ None) × (t.pass.me.spare ≡ None) × (t.pass.me.view.client ≡ turn_at (last_in t.pass.me.view.client.turn)) };
 }

@@ -2,6 +2,7 @@
 
 ghost use Rattle.std.specs.Prelude.{◌≡◌, ◌++◌, ◌∷◌, [], ℕ, false, true, IfOk, IsTrue, MatchOption, MatchResult};
 ghost use Rattle.outbox.specs.Counts.{InOrder};
+ghost use Rattle.outbox.specs.Places.{PlacesRise};
 ghost use Rattle.outbox.specs.Taken.{Taking, deliveries};
 
 use crate::handle::Outbox;
@@ -61,6 +62,12 @@ impl Delivery {
     {
         self.item.mark()
     }
+
+    pub fn place(&self) -> Option<u64>
+        ensures { result ≡ self.now.place }
+    {
+        self.item.place()
+    }
 }
 
 /// Takes from an outbox. A message that isn't released yet is held, and with it all after it.
@@ -74,13 +81,14 @@ pub struct Taker {
 impl Model for Taker {
     ghost use Rattle.std.specs.Prelude.{◌≡◌, is_some};
     ghost use Rattle.outbox.specs.Counts.{InOrder};
+    ghost use Rattle.outbox.specs.Places.{PlacesRise};
     ghost use Rattle.outbox.specs.Taken.{Taking, EndsWith};
 
     ghost Value = { Taking };
 
     ghost view = { λ t. record { seat = t.seat; is_holding = is_some t.held } };
 
-    ghost invariant = { λ t. (t.seat.outbox ≡ t.outbox) × EndsWith t.held t.seat.view.taken × InOrder t.seat.view.taken };
+    ghost invariant = { λ t. (t.seat.outbox ≡ t.outbox) × EndsWith t.held t.seat.view.taken × InOrder t.seat.view.taken × PlacesRise t.seat.view.taken };
 }
 
 impl Taker {
@@ -104,6 +112,7 @@ impl Taker {
             (deliveries self.new ≡ deliveries self.old)
             (λ delivery. (by : ℕ) × (deliveries self.new ≡ deliveries self.old ++ (by, delivery) ∷ [])) }
         ensures order { InOrder (deliveries self.new) }
+        ensures places { PlacesRise (deliveries self.new) }
     {
         let item = self.next(rt)?;
         match Delivery::of(item) {
@@ -123,6 +132,7 @@ impl Taker {
             (self.new.seat.view.taken ≡ deliveries self.old)
             (λ item. (by : ℕ) × (self.new.seat.view.taken ≡ deliveries self.old ++ (by, item) ∷ [])) }
         ensures order { InOrder self.new.seat.view.taken }
+        ensures places { PlacesRise self.new.seat.view.taken }
     {
         match self.held.take() {
             Some(item) => Some(item),

@@ -8,6 +8,9 @@ pub mod RuleOrder
 pub mod NameOwners
 pub mod Seats
 pub mod Sending
+pub mod Mailboxes
+pub mod Theirs
+pub mod ToldFirst
 pub mod Admitted
 pub mod Adding
 pub mod Delivering

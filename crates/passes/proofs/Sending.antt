@@ -1,5 +1,5 @@
 -- What a pass sends by its sender.
-use Rattle.std.proofs.Common.{◌≡◌, ◌⊎◌, inl, inr, ℕ, ◌+◌, ◌++◌, List, [], ◌∷◌, cond, Option, Some, refl, sym, ap, subst, ◌∙◌}
+use Rattle.std.proofs.Common.{◌≡◌, ◌⊎◌, inl, inr, ℕ, ◌+◌, ◌++◌, List, [], ◌∷◌, length, cond, Option, Some, refl, sym, ap, subst, ◌∙◌}
 use Rattle.std.specs.Prelude.{Result, Ok, Err, IfOk, IfErr, MatchResult}
 use mathlib.Core.List.{IsPrefix}
 use Rattle.outbox.specs.Items.{Item}
@@ -15,7 +15,9 @@ use Rattle.routing.specs.RecipientSeats.{is_put, AllFit, Keeps, Routed, Unrouted
 use Rattle.passes.specs.declared.reading.Source.{Source}
 use Rattle.passes.specs.declared.error.BusError.{BusError}
 use Rattle.passes.specs.declared.error.BusError.TheVariants as errors
+use Rattle.passes.specs.declared.standing.Standing.{Standing}
 use Rattle.passes.specs.Passes.{PassState, sender_of}
+use Rattle.passes.specs.Standings.{place_at}
 use Rattle.passes.specs.Routes.{max_count, Sends, HasRouted, HasNotPut, IsUnrouted}
 use Rattle.passes.specs.Seats.{KeepsThere, NothingPut, KeepsShut}
 use Rattle.passes.specs.Sending.{sending}
@@ -73,12 +75,12 @@ module _ {M : Type 0} where
       let P : PassState M → Type 0 = λ x. HasNotPut outbox_of v x in
       subst P (sym is) (record { sends = sends_to outbox_of v l new begins k fits; count_is = u.count_is; puts = λ n there. u.puts n there })
 
-  has_routed : (outbox_of : M → OutboxId) (source : Source) (bytes : List ℕ) (v w : PassState M) (l : List (Command M)) (mid new : SenderView) (recipients refused : List ℕ) → w ≡ record v { seen = l; count = new.count; recipient_seats = new.recipient_seats } → IsPrefix v.seen l
+  has_routed : (standing : Standing) (place : Option ℕ) (outbox_of : M → OutboxId) (source : Source) (bytes : List ℕ) (v w : PassState M) (l : List (Command M)) (mid new : SenderView) (recipients refused : List ℕ) → w ≡ record v { seen = l; count = new.count; recipient_seats = new.recipient_seats } → IsPrefix v.seen l
       → ((m : Message) → Valid bytes m → AreRecipients (after l) (sender_of source v.connection) m recipients) → KeepsShut recipients (sending v) mid
-      → NothingPut (after l) (sending v) mid → KeepsThere outbox_of (after l) (sending v) new → AllFit new.origin new.count new.recipient_seats → Routed bytes recipients refused mid new
-      → HasRouted outbox_of source bytes v recipients refused w
-  has_routed outbox_of source bytes v w l mid new recipients refused is begins are shut u all fits r =
-      let P : PassState M → Type 0 = λ x. HasRouted outbox_of source bytes v recipients refused x in
+      → NothingPut (after l) (sending v) mid → KeepsThere outbox_of (after l) (sending v) new → AllFit new.origin new.count new.recipient_seats → Routed place bytes recipients refused mid new
+      → place ≡ place_at standing (length l) → HasRouted standing outbox_of source bytes v recipients refused w
+  has_routed standing place outbox_of source bytes v w l mid new recipients refused is begins are shut u all fits r at =
+      let P : PassState M → Type 0 = λ x. HasRouted standing outbox_of source bytes v recipients refused x in
       subst P (sym is) (record {
         sends = sends_to outbox_of v l new begins all fits;
         are = are;
@@ -87,6 +89,7 @@ module _ {M : Type 0} where
           item = r.item;
           bytes_are = r.bytes_are;
           mark_is = r.mark_is ∙ ap (λ (o : ℕ). Some (o, new.count)) all.origin_is;
+          place_is = r.place_is ∙ at;
           puts = λ n there. r.puts n ∙ ap (λ (l : List Item). l ++ cond (is_put n recipients refused) (r.item ∷ []) []) (u.puts n there);
         };
         rising = r.rising;
@@ -96,12 +99,12 @@ module _ {M : Type 0} where
       })
 
   -- what a broadcast came to
-  pub answered : (A : Type 0) (outbox_of : M → OutboxId) (source : Source) (from : Option ℕ) (bytes : List ℕ) (v u p q w : PassState M) (l : List (Command M)) (s : State M) (old mid new : SenderView) (recipients refused : List ℕ) (r : Result A BusError)
+  pub answered : (A : Type 0) (standing : Standing) (place : Option ℕ) (outbox_of : M → OutboxId) (source : Source) (from : Option ℕ) (bytes : List ℕ) (v u p q w : PassState M) (l : List (Command M)) (s : State M) (old mid new : SenderView) (recipients refused : List ℕ) (r : Result A BusError)
       → Turn v u p q w l s old new → from ≡ sender_of source p.connection
       → ((m : Message) → Valid bytes m → AreRecipients s from m recipients) → KeepsShut recipients old mid → KeepsThere outbox_of s old mid → NothingPut s old mid → Keeps [] mid new → AllFit new.origin new.count new.recipient_seats
-      → IfOk r (λ _. Routed bytes recipients refused mid new) → IfErr r (λ e. ((e ≡ errors.NoMemory) ⊎ ((e ≡ errors.Counts) × (mid.count ≡ max_count))) × Unrouted mid new)
-      → MatchResult r (λ _. HasRouted outbox_of source bytes v recipients refused w) (λ e. IsUnrouted outbox_of e v w)
-  answered A outbox_of source from bytes v u p q w l s old mid new recipients refused r t is are shut k n after_it fits ok err = go r ok err
+      → IfOk r (λ _. Routed place bytes recipients refused mid new) → IfErr r (λ e. ((e ≡ errors.NoMemory) ⊎ ((e ≡ errors.Counts) × (mid.count ≡ max_count))) × Unrouted mid new)
+      → place ≡ place_at standing (length l) → MatchResult r (λ _. HasRouted standing outbox_of source bytes v recipients refused w) (λ e. IsUnrouted outbox_of e v w)
+  answered A standing place outbox_of source from bytes v u p q w l s old mid new recipients refused r t is are shut k n after_it fits ok err at = go r ok err
     where
       mine : KeepsThere outbox_of (after l) (sending v) mid
       mine = own_keeps outbox_of v u p q w l s old new mid t k
@@ -124,9 +127,9 @@ module _ {M : Type 0} where
       shut_after : KeepsShut recipients (sending v) mid
       shut_after = let O : SenderView → Type 0 = λ x. KeepsShut recipients x mid in subst O (its_sender v u p q w l s old new t) shut
 
-      go : (r : Result A BusError) → IfOk r (λ _. Routed bytes recipients refused mid new) → IfErr r (λ e. ((e ≡ errors.NoMemory) ⊎ ((e ≡ errors.Counts) × (mid.count ≡ max_count))) × Unrouted mid new)
-          → MatchResult r (λ _. HasRouted outbox_of source bytes v recipients refused w) (λ e. IsUnrouted outbox_of e v w)
-      go (Ok a) ok err = has_routed outbox_of source bytes v w l mid new recipients refused (turned v u p q w l s old new t) t.begins are_after shut_after nothing all fits ok
+      go : (r : Result A BusError) → IfOk r (λ _. Routed place bytes recipients refused mid new) → IfErr r (λ e. ((e ≡ errors.NoMemory) ⊎ ((e ≡ errors.Counts) × (mid.count ≡ max_count))) × Unrouted mid new)
+          → MatchResult r (λ _. HasRouted standing outbox_of source bytes v recipients refused w) (λ e. IsUnrouted outbox_of e v w)
+      go (Ok a) ok err = has_routed standing place outbox_of source bytes v w l mid new recipients refused (turned v u p q w l s old new t) t.begins are_after shut_after nothing all fits ok at
       go (Err e) ok err = inr (why err.0, has_not_put outbox_of v w l new (turned v u p q w l s old new t) t.begins all (nothing_on (after l) (sending v) mid new nothing (unrouted (after l) mid new err.1)) fits)
         where
           why : (e ≡ errors.NoMemory) ⊎ ((e ≡ errors.Counts) × (mid.count ≡ max_count)) → (e ≡ errors.NoMemory) ⊎ ((e ≡ errors.Counts) × (v.count ≡ max_count))

@@ -120,8 +120,12 @@ module _ {M : Type 0} where
     -- fewer commands are published than it has seen
     fewer : length before.history < length v.seen → IsPast v before
 
+  -- memory for the outbox's turn was refused, and nothing is published
+  abbrev pub IsUnreserved : Publication M → BusError → Publication M → Type 0
+  IsUnreserved before error next = (error ≡ errors.NoMemory) × (next ≡ before)
+
   -- the call that makes the pass's connection
   abbrev pub Connects : PassState M → Publication M → M → Result Reply BusError → PassState M → Publication M → Type 0
   Connects v before mailbox (Ok reply) w next = IsDone v before (Connect mailbox) reply w next × (reply ≡ Connected w.connection) × (w.is_closed ≡ false)
   Connects v before mailbox (Err error) w next =
-      IsRefused v before (Connect mailbox) error w next ⊎ (IsStopped v before w next × (((error ≡ errors.Closed) × IsPast v before) ⊎ EndsBus before error next))
+      IsRefused v before (Connect mailbox) error w next ⊎ (IsStopped v before w next × (((error ≡ errors.Closed) × IsPast v before) ⊎ (EndsBus before error next ⊎ IsUnreserved before error next)))

@@ -12,6 +12,9 @@ pub mod NameOwners
 pub mod NameSearch
 pub mod Errors
 pub mod Passes
+pub mod Mailboxes
+pub mod Theirs
+pub mod Standings
 pub mod Routes
 pub mod Seats
 pub mod Sending

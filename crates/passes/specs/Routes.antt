@@ -1,5 +1,5 @@
 -- Broadcasts of a pass (own).
-use Rattle.std.specs.Prelude.{◌≡◌, ◌⊎◌, ◌+◌, ◌++◌, ℕ, Bool, true, cond, List, [], ◌∷◌, Option, Some}
+use Rattle.std.specs.Prelude.{◌≡◌, ◌⊎◌, ◌+◌, ◌++◌, ℕ, Bool, true, cond, List, [], ◌∷◌, length, Option, Some}
 use mathlib.Core.List.{IsPrefix}
 use Rattle.message_view.specs.Message.{Message}
 use Rattle.message_view.specs.Valid.{Valid}
@@ -13,7 +13,9 @@ use Rattle.routing.specs.RecipientSeats.{RisesFrom, puts_at, outbox_at, shut_at,
 use Rattle.passes.specs.declared.error.BusError.{BusError}
 use Rattle.passes.specs.declared.error.BusError.TheVariants as errors
 use Rattle.passes.specs.declared.reading.Source.{Source}
+use Rattle.passes.specs.declared.standing.Standing.{Standing}
 use Rattle.passes.specs.Passes.{PassState, sender_of}
+use Rattle.passes.specs.Standings.{place_at}
 
 -- the greatest count of a broadcast
 abbrev pub max_count : ℕ
@@ -44,30 +46,32 @@ module _ {M : Type 0} where
     pub same : w ≡ record v { seen = w.seen; count = w.count; recipient_seats = w.recipient_seats }
     pub keeps : KeepsSeats outbox_of v w
 
-  -- One item more, with these bytes and this mark, was put to just these connections, of those that are there.
-  pub record HasPut (goes_to : ℕ → Bool) (bytes : List ℕ) (mark : Option (ℕ × ℕ)) (v w : PassState M) : Type 0 where
+  -- One item more, with these bytes and this mark, was put to just these connections, of those that are there. It bears the place
+  -- at which it stands after what the pass has seen.
+  pub record HasPut (standing : Standing) (goes_to : ℕ → Bool) (bytes : List ℕ) (mark : Option (ℕ × ℕ)) (v w : PassState M) : Type 0 where
     pub item : Item
     pub bytes_are : item.bytes ≡ bytes
     pub mark_is : item.mark ≡ mark
+    pub place_is : item.place ≡ place_at standing (length w.seen)
     pub puts : (n : ℕ) → is_there n w ≡ true → puts_at n w.recipient_seats ≡ puts_at n v.recipient_seats ++ cond (goes_to n) (item ∷ []) []
 
   -- One broadcast more of the message of these bytes, to its recipients after what the pass has seen: it was put to each
   -- that didn't refuse it, and nothing was put anywhere else. One that refused is a recipient whose outbox is shut, and if
   -- the seat knew that before, the recipient refused. What was put waits to be written out, and so does the outbox of one that
   -- refused.
-  pub record HasRouted (outbox_of : M → OutboxId) (source : Source) (bytes : List ℕ) (v : PassState M) (recipients refused : List ℕ) (w : PassState M) : Type 0 where
+  pub record HasRouted (standing : Standing) (outbox_of : M → OutboxId) (source : Source) (bytes : List ℕ) (v : PassState M) (recipients refused : List ℕ) (w : PassState M) : Type 0 where
     pub sends : Sends outbox_of v w
     pub are : (m : Message) → Valid bytes m → AreRecipients (after w.seen) (sender_of source v.connection) m recipients
     pub count_is : w.count ≡ v.count + 1
-    pub put : HasPut (λ n. is_put n recipients refused) bytes (Some (v.connection, w.count)) v w
+    pub put : HasPut standing (λ n. is_put n recipients refused) bytes (Some (v.connection, w.count)) v w
     pub rising : RisesFrom 0 refused
     pub listed : (n : ℕ) → is_in n refused ≡ true → (is_in n recipients ≡ true) × (shut_at n w.recipient_seats ≡ true)
     pub again : (n : ℕ) → is_in n recipients ≡ true → shut_at n v.recipient_seats ≡ true → is_in n refused ≡ true
     pub waits : (n : ℕ) → is_in n recipients ≡ true → waits_at n w.recipient_seats ≡ true
 
   -- one broadcast more, to recipients that the answer doesn't list
-  abbrev pub HasRoutedToSome : (M → OutboxId) → Source → List ℕ → PassState M → List ℕ → PassState M → Type 0
-  HasRoutedToSome outbox_of source bytes v refused w = (recipients : List ℕ) × HasRouted outbox_of source bytes v recipients refused w
+  abbrev pub HasRoutedToSome : Standing → (M → OutboxId) → Source → List ℕ → PassState M → List ℕ → PassState M → Type 0
+  HasRoutedToSome standing outbox_of source bytes v refused w = (recipients : List ℕ) × HasRouted standing outbox_of source bytes v recipients refused w
 
   -- nothing was put, and no count is used
   pub record HasNotPut (outbox_of : M → OutboxId) (v w : PassState M) : Type 0 where

@@ -62,6 +62,7 @@ impl<B: BusBrand, M: Mailbox, R: Wait + Drop> Control<B, M, R> {
         let connection = pass.connection();
         let reply = self.command(pass, Command::Close(connection))?;
         pass.close();
+        self.turns.remove(connection);
         Ok(reply)
     }
 }

@@ -20,7 +20,8 @@ use published::{
     BusBrand, Entry, HistoryPrefix, Law, Opened, PublishError, Published, Publisher, Shown,
     StateReader,
 };
-use routing::Mailbox;
+use outbox::Turn;
+use routing::{Mailbox, Turns};
 use std::alloc::{AllocError, Global};
 use std::collections::LinkedList;
 use std::marker::Model;
@@ -28,11 +29,11 @@ use std::sync::Wait;
 
 /// A value that is dropped through its own type. A generic function can't drop a publisher by its name.
 #[derive(Drop)]
-struct Held<P: Drop> {
-    value: P,
+pub(crate) struct Held<P: Drop> {
+    pub(crate) value: P,
 }
 
-/// The writer of the published state, as calls are lent it.
+/// The writer of the published state, and the turns of the outboxes of the connections, as calls are lent them.
 #[derive(Drop)]
 pub struct Control<B: BusBrand, M: Mailbox, R: Wait + Drop>
 where
@@ -40,7 +41,8 @@ where
     Shown<B, M>: Absorb<Entry<B, M>, State = LinkedList<Command<M>>>,
     Law: Rule<Command<M>, u64>,
 {
-    publisher: Held<Publisher<B, M, R>>,
+    pub(crate) publisher: Held<Publisher<B, M, R>>,
+    pub(crate) turns: Turns,
 }
 
 impl<B: BusBrand, M: Mailbox, R: Wait + Drop> Model for Control<B, M, R>
@@ -50,10 +52,13 @@ where
     Law: Rule<Command<M>, u64>,
 {
     ghost use Rattle.published.specs.Publication.{Publication};
+    ghost use Rattle.passes.specs.Theirs.{HaveTurns};
 
     ghost Value = { Publication M };
 
     ghost view = { λ c. c.publisher.value };
+
+    ghost invariant = { λ c. HaveTurns M.outbox_of c.publisher.value.history c.turns.turns };
 }
 
 impl<B: BusBrand, M: Mailbox, R: Wait + Drop> Control<B, M, R> {
@@ -73,6 +78,7 @@ impl<B: BusBrand, M: Mailbox, R: Wait + Drop> Control<B, M, R> {
             publisher: Held {
                 value: Publisher::new(rt, alloc, key, opened, readers)?,
             },
+            turns: Turns::new(alloc),
         })
     }
 
@@ -216,8 +222,19 @@ impl<B: BusBrand, M: Mailbox, R: Wait + Drop> Control<B, M, R> {
         }
     }
 
-    /// Makes the connection of a pass that has none yet, whose messages go to the mailbox.
-    pub fn connect(&mut self, pass: &mut Pass<B, M>, mailbox: M) -> Result<Reply, BusError>
+    /// Makes the connection of a pass that has none yet, whose messages go to the mailbox, and takes the turn of its outbox.
+    ///
+    /// # Errors
+    ///
+    /// The state's refusal; `Closed`; and `NoMemory`, after which the bus has ended, unless memory for the turn was refused.
+    pub fn connect(
+        &mut self,
+        pass: &mut Pass<B, M>,
+        mailbox: M,
+        turn: Turn,
+    ) -> Result<Reply, BusError>
+        // The turn is that of the mailbox's outbox, and nothing was put by it.
+        requires { (turn.queue ≡ (M.outbox_of mailbox).queue) × (turn.last ≡ 0) }
         ensures { Connects pass.old self.old mailbox result pass.new self.new }
     {
         let connection = pass.connection();
@@ -227,6 +244,9 @@ impl<B: BusBrand, M: Mailbox, R: Wait + Drop> Control<B, M, R> {
         }
         self.tell(pass)?;
         let _commands = self.state().commands();
+        if self.turns.reserve().is_err() {
+            return Err(BusError::NoMemory);
+        }
         let reply = match self.publisher.value.publish(Command::Connect(mailbox)) {
             Ok(reply) => reply,
             Err(PublishError::NoMemory) => return Err(BusError::NoMemory),
@@ -239,6 +259,7 @@ impl<B: BusBrand, M: Mailbox, R: Wait + Drop> Control<B, M, R> {
             unreachable!()
         };
         pass.count_in(self.publisher.value.front(), number);
+        self.turns.add(number, turn);
         Ok(Reply::Connected(number))
     }
 }

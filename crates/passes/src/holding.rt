@@ -44,12 +44,12 @@ impl<B: BusBrand, M: Mailbox> Pass<B, M> {
 
     /// A message that isn't a broadcast, for a put at one outbox, held with what is put between `hold` and `release`.
     pub fn message(&mut self, alloc: Global, bytes: Bytes) -> Result<Item, AllocError>
-        ensures ok { IfOk result (λ item. (item.bytes ≡ bytes) × (item.mark ≡ None)) }
+        ensures ok { IfOk result (λ item. (item.bytes ≡ bytes) × (item.mark ≡ None) × (item.place ≡ None)) }
         ensures same { self.new ≡ self.old }
     {
         match &mut self.sender {
-            Some(sender) => sender.message(alloc, bytes),
-            None => Item::new(alloc, bytes),
+            Some(sender) => sender.message(alloc, bytes, None),
+            None => Item::new(alloc, bytes, None),
         }
     }
 }

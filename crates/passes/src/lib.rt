@@ -20,6 +20,8 @@ mod reading;
 mod route_lists;
 mod routes;
 mod seating;
+mod standing;
+mod telling;
 mod texts;
 mod unicasts;
 
@@ -31,6 +33,7 @@ pub use name_call::NameCall;
 pub use pass::Pass;
 pub use reading::Source;
 pub use route_lists::RouteLists;
+pub use standing::Standing;
 pub use unicasts::Sent;
 
 // Passed on from the crates below, so that the crates above need not name those in crates.txt.

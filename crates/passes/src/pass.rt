@@ -1,11 +1,12 @@
 // What one user of the bus has seen and done.
 
-ghost use Rattle.std.specs.Prelude.{◌≡◌, ◌≢◌, ◌⊎◌, ◌+◌, ◌≤◌, ◌<◌, ◌^◌, [], true, length, IfOk, MatchResult};
+ghost use Rattle.std.specs.Prelude.{◌≡◌, ◌≢◌, ◌⊎◌, ◌+◌, ◌≤◌, ◌<◌, ◌^◌, [], true, length, IfErr, IfOk, OnOk, MatchResult};
 ghost use mathlib.Core.List.{IsPrefix};
 ghost use Rattle.program_table.specs.History.{own_commands};
 ghost use Rattle.passes.specs.Passes.{PassState, HasTaken, IsOpenTo, new_pass};
 ghost use Rattle.passes.specs.Calls.{shut_out};
 ghost use Rattle.passes.specs.Sending.{sending};
+ghost use Rattle.passes.specs.Theirs.{AreTheirs};
 
 use crate::error::BusError;
 use crate::reading::Source;
@@ -40,12 +41,13 @@ where
 {
     ghost use Rattle.passes.specs.Passes.{PassState, HasTaken};
     ghost use Rattle.passes.specs.Sending.{SendsFor, count_in, recipient_seats_in};
+    ghost use Rattle.passes.specs.Theirs.{AreTheirs};
 
     ghost Value = { PassState M };
 
     ghost view = { λ p. record { seen = p.history_reader; connection = p.connection; is_closed = p.is_closed; is_shut_out = p.is_shut_out; took = p.took; count = count_in p.sender; recipient_seats = recipient_seats_in p.sender } };
 
-    ghost invariant = { λ p. HasTaken (record { seen = p.history_reader; connection = p.connection; is_closed = p.is_closed; is_shut_out = p.is_shut_out; took = p.took; count = count_in p.sender; recipient_seats = recipient_seats_in p.sender }) × SendsFor p.connection p.sender };
+    ghost invariant = { λ p. HasTaken (record { seen = p.history_reader; connection = p.connection; is_closed = p.is_closed; is_shut_out = p.is_shut_out; took = p.took; count = count_in p.sender; recipient_seats = recipient_seats_in p.sender }) × SendsFor p.connection p.sender × AreTheirs M.outbox_of p.history_reader (recipient_seats_in p.sender) };
 }
 
 impl<B: BusBrand, M: Mailbox> Pass<B, M> {
@@ -150,7 +152,7 @@ impl<B: BusBrand, M: Mailbox> Pass<B, M> {
         self.is_closed = true;
     }
 
-    /// Notes that a call of its connection was Closed, or has ended the bus, so that no later one is accepted.
+    /// Notes that a call of its connection was Closed, or has ended the bus.
     pub(crate) fn shut_out(&mut self)
         ensures { self.new ≡ shut_out self.old }
     {
@@ -162,6 +164,7 @@ impl<B: BusBrand, M: Mailbox> Pass<B, M> {
     pub(crate) fn take_sender(&mut self, alloc: Global) -> Sender<M>
         requires { self.old.connection ≢ 0 }
         ensures sender { result ≡ sending self.old }
+        ensures theirs { AreTheirs M.outbox_of self.old.seen result.recipient_seats }
         ensures same { self.new ≡ record self.old { count = 0; recipient_seats = [] } }
     {
         match self.sender.take() {
@@ -174,6 +177,7 @@ impl<B: BusBrand, M: Mailbox> Pass<B, M> {
     pub(crate) fn put_back(&mut self, sender: Sender<M>)
         requires number { self.old.connection ≢ 0 }
         requires origin { sender.origin ≡ self.old.connection }
+        requires theirs { AreTheirs M.outbox_of self.old.seen sender.recipient_seats }
         ensures { self.new ≡ record self.old { count = sender.count; recipient_seats = sender.recipient_seats } }
     {
         self.sender = Some(sender);
@@ -194,6 +198,21 @@ impl<B: BusBrand, M: Mailbox> Pass<B, M> {
         history_reader
     }
 
+    /// Whether it may put a message of this source.
+    ///
+    /// # Errors
+    ///
+    /// `Closed` if the pass was never connected, or was closed and the message isn't the bus's.
+    pub(crate) fn check_open(&self, source: Source) -> Result<(), BusError>
+        ensures open { OnOk result (IsOpenTo source self.now) }
+        ensures error { IfErr result (λ error. error ≡ BusError.Closed) }
+    {
+        if self.connection == 0 || (source == Source::Own && self.is_closed) {
+            return Err(BusError::Closed);
+        }
+        Ok(())
+    }
+
     /// Enters the published state for a message of this source, or for a question of the pass's own: the history that the
     /// state comes of begins with what was seen.
     ///
@@ -206,9 +225,7 @@ impl<B: BusBrand, M: Mailbox> Pass<B, M> {
         ensures open { IfOk result (λ _. IsOpenTo source self.old) }
         ensures same { self.new ≡ self.old }
     {
-        if self.connection == 0 || (source == Source::Own && self.is_closed) {
-            return Err(BusError::Closed);
-        }
+        self.check_open(source)?;
         self.history_reader.enter().ok_or(BusError::Closed)
     }
 

@@ -1,8 +1,10 @@
 // Broadcasts of a pass.
 
-ghost use Rattle.std.specs.Prelude.{◌≡◌, ◌⊎◌, [], IfErr, IfOk, OnOk, MatchResult};
-ghost use Rattle.routing.specs.RecipientSeats.{RisesFrom, AllHave, Keeps, Routed, Unrouted};
+ghost use Rattle.std.specs.Prelude.{◌≡◌, ◌⊎◌, [], ℕ, IfErr, IfOk, OnOk, MatchResult};
+ghost use Rattle.routing.specs.RecipientSeats.{RisesFrom, AllHave, Keeps, Routed, Unrouted, all_written};
+ghost use Rattle.routing.specs.Turns.{KeepsTurns, MayStand};
 ghost use Rattle.passes.specs.Passes.{IsOpenTo};
+ghost use Rattle.passes.specs.Sending.{SendsFor, count_in, recipient_seats_in};
 ghost use Rattle.passes.specs.Routes.{HasRouted, IsUnrouted, pass_written};
 
 use crate::error::BusError;
@@ -10,38 +12,43 @@ use crate::pass::Pass;
 use crate::reading::Source;
 use crate::route_lists::RouteLists;
 use crate::seating::seat_recipients;
+use crate::standing::Standing;
 use arrayvec::ArrayVec;
 use bytes::Bytes;
 use fan_out::MAX_RECIPIENTS;
 use message_view::View;
 use published::BusBrand;
-use routing::{Gate, Mailbox, RouteError, Sender};
+use routing::{Gate, Mailbox, RouteError, Sender, Turns};
 use std::alloc::{AllocError, Global};
 use std::sync::Wait;
 
-// Puts a broadcast to its recipients, once the sender has its seats.
-fn route<M: Mailbox, W: Wait, G: Gate>(
+/// Puts a broadcast to its recipients, once the sender has its seats, at this place if at any.
+pub(crate) fn route<M: Mailbox, W: Wait, G: Gate>(
     rt: &W,
     alloc: Global,
     sender: &mut Sender<M>,
     seated: Result<(), AllocError>,
     recipients: &ArrayVec<u64, MAX_RECIPIENTS>,
     bytes: &Bytes,
+    place: Option<u64>,
+    turns: &mut Turns,
     gate: &G,
     refused: &mut ArrayVec<u64, MAX_RECIPIENTS>,
 ) -> Result<(), BusError>
     requires none { refused.old.items ≡ [] }
     requires rising { RisesFrom 0 recipients.now.items }
     requires seats { OnOk seated (AllHave recipients.now.items sender.old.recipient_seats) }
+    requires stands { MayStand place recipients.now.items sender.old.recipient_seats turns.old }
+    ensures turns { KeepsTurns turns.old turns.new }
     ensures keeps { Keeps [] sender.old sender.new }
-    ensures ok { OnOk result (Routed bytes.now recipients.now.items refused.new.items sender.old sender.new) }
+    ensures ok { OnOk result (Routed place bytes.now recipients.now.items refused.new.items sender.old sender.new) }
     ensures err { IfErr result (λ error. ((error ≡ BusError.NoMemory) ⊎ ((error ≡ BusError.Counts) × (sender.old.count ≡ u64.MAX))) × Unrouted sender.old sender.new) }
 {
     match seated {
         Ok(()) => {}
         Err(_) => return Err(BusError::NoMemory),
     }
-    match sender.broadcast(rt, alloc, recipients.as_slice(), bytes, gate, refused) {
+    match sender.broadcast(rt, alloc, recipients.as_slice(), bytes, place, turns, gate, refused) {
         Ok(()) => Ok(()),
         Err(RouteError::NoMemory) => Err(BusError::NoMemory),
         Err(RouteError::Counts) => Err(BusError::Counts),
@@ -71,7 +78,7 @@ impl<B: BusBrand, M: Mailbox> Pass<B, M> {
     ) -> Result<(), BusError>
         // The view is that of the bytes.
         requires { view.now ≡ bytes.now }
-        ensures routed { MatchResult result (λ _. HasRouted M.outbox_of source bytes.now self.old lists.new.recipients.items lists.new.refused.items self.new) (λ error. IsUnrouted M.outbox_of error self.old self.new) }
+        ensures routed { MatchResult result (λ _. HasRouted Standing.Apart M.outbox_of source bytes.now self.old lists.new.recipients.items lists.new.refused.items self.new) (λ error. IsUnrouted M.outbox_of error self.old self.new) }
         ensures open { IfOk result (λ _. IsOpenTo source self.old) }
     {
         lists.clear();
@@ -94,6 +101,8 @@ impl<B: BusBrand, M: Mailbox> Pass<B, M> {
             seated,
             &lists.recipients,
             bytes,
+            None,
+            &mut Turns::new(alloc),
             gate,
             &mut lists.refused,
         );
@@ -106,8 +115,17 @@ impl<B: BusBrand, M: Mailbox> Pass<B, M> {
     pub fn push_out<W: Wait>(&mut self, rt: &W)
         ensures { self.new ≡ pass_written self.old }
     {
-        if let Some(sender) = &mut self.sender {
-            sender.push_out(rt);
-        }
+        push_out(rt, &mut self.sender);
+    }
+}
+
+// Has a sender, if there is one, write out what it put.
+fn push_out<M: Mailbox, W: Wait>(rt: &W, sender: &mut Option<Sender<M>>)
+    ensures seats { recipient_seats_in sender.new ≡ all_written (recipient_seats_in sender.old) }
+    ensures count { count_in sender.new ≡ count_in sender.old }
+    ensures stays { (connection : ℕ) → SendsFor connection sender.old → SendsFor connection sender.new }
+{
+    if let Some(sender) = sender {
+        sender.push_out(rt);
     }
 }

@@ -141,6 +141,30 @@ pub(crate) fn seat_recipients<'a, M: Mailbox>(
     take_seats(state, sender, recipients.as_slice())
 }
 
+/// As `seat_recipients`, and says that the recipients are there.
+pub(crate) fn seat_those_there<'a, M: Mailbox>(
+    state: &'a BusState<M>,
+    view: &View<'a>,
+    from: Option<u64>,
+    sender: &mut Sender<M>,
+    marks: &mut Marks,
+    recipients: &mut ArrayVec<u64, MAX_RECIPIENTS>,
+) -> Result<(), AllocError>
+    requires { recipients.old.items ≡ [] }
+    ensures recipients { (m : Message) → Valid view.now m → AreRecipients state.now from m recipients.new.items }
+    ensures there { (n : ℕ) → is_in n recipients.new.items ≡ true → is_connected n state.now.connections ≡ true }
+    ensures rising { RisesFrom 0 recipients.new.items }
+    ensures shut { KeepsShut recipients.new.items sender.old sender.new }
+    ensures keeps { KeepsThere M.outbox_of state.now sender.old sender.new }
+    ensures put { NothingPut state.now sender.old sender.new }
+    ensures all { OnOk result (AllHave recipients.new.items sender.new.recipient_seats) }
+{
+    // These calls' contracts say that the view is of a message, and that entries are of connections.
+    let _ = view.raw();
+    let _ = state.entries_for(view, None);
+    seat_recipients(state, view, from, sender, marks, recipients)
+}
+
 /// Finds the connection that owns a name, and takes the seat that the sender needs for it. None where nobody owns the
 /// name.
 pub(crate) fn seat_owner<M: Mailbox>(

@@ -10,6 +10,7 @@ use Rattle.bus_messages.specs.Sent.{Builds, error_asked}
 use Rattle.bus_messages.specs.declared.error_name.ErrorName.TheVariants.{NoReply}
 use Rattle.router.specs.Passes.{PassState}
 use Rattle.router.specs.Sent.{Sent}
+use Rattle.router.specs.Standing.TheVariants as standings
 use Rattle.router.specs.Sent.TheVariants as sent
 use Rattle.router.specs.Unicasts.{Unicasts}
 use Rattle.unique_name.specs.UniqueNames.{unique_name}
@@ -34,11 +35,11 @@ gone_built serial caller reply_to result h = h
 module _ {M : Type 0} where
   -- an error to one caller was built with the next serial, and sent
   pub answered : (outbox_of : M → OutboxId) (caller m serial reply_to : ℕ) (to : List ℕ) (v u w : PeerState M) (built : Result (List ℕ) BuildError) (result : Result (Unit {0}) AnswerError) → u ≡ after_serial v → serial ≡ v.serial → m ≡ caller → to ≡ unique_name m
-      → Builds (error_asked serial (Some to) reply_to NoReply) built → ((asked : Asked) → Builds asked built → IsTold outbox_of asked (unique_name m) u.pass result w.pass) → w ≡ with_pass u w.pass → AnswersCaller outbox_of caller reply_to v w
+      → Builds (error_asked serial (Some to) reply_to NoReply) built → ((asked : Asked) → Builds asked built → IsTold standings.Apart outbox_of asked (unique_name m) u.pass result w.pass) → w ≡ with_pass u w.pass → AnswersCaller outbox_of caller reply_to v w
   answered outbox_of caller m serial reply_to to v u w built result is s e t b sent_as same =
       let B : ℕ → List ℕ → Type 0 = λ k y. Builds (error_asked k (Some y) reply_to NoReply) built in
-      let N : ℕ → Type 0 = λ k. IsTold outbox_of (gone_asked v.serial k reply_to) (unique_name k) u.pass result w.pass in
-      let P : PeerState M → Type 0 = λ x. IsTold outbox_of (gone_asked v.serial caller reply_to) (unique_name caller) x.pass result w.pass in (
+      let N : ℕ → Type 0 = λ k. IsTold standings.Apart outbox_of (gone_asked v.serial k reply_to) (unique_name k) u.pass result w.pass in
+      let P : PeerState M → Type 0 = λ x. IsTold standings.Apart outbox_of (gone_asked v.serial caller reply_to) (unique_name caller) x.pass result w.pass in (
         result,
         (same ∙ ap (λ (x : PeerState M). with_pass x w.pass) is, subst P is (subst N e (sent_as (gone_asked v.serial m reply_to) (gone_built v.serial m reply_to built (subst (B v.serial) t (subst (λ k. B k to) s b)))))),
       )
@@ -48,12 +49,12 @@ module _ {M : Type 0} where
   one_more outbox_of n caller serial v mid w many one = let P : ℕ → Type 0 = λ k. AnswersMany outbox_of k v w in subst P (next_is n) (mid, caller, serial, many, one)
 
   -- a message of the bus to one connection closes no pass and opens none
-  unicast_closes_none : (outbox_of : M → OutboxId) (to bytes : List ℕ) (v w : PassState M) (s : Sent) → Unicasts outbox_of to bytes v s w → w.is_closed ≡ v.is_closed
+  unicast_closes_none : (outbox_of : M → OutboxId) (to bytes : List ℕ) (v w : PassState M) (s : Sent) → Unicasts standings.Apart outbox_of to bytes v s w → w.is_closed ≡ v.is_closed
   unicast_closes_none outbox_of to bytes v w (sent.Put n) (owner, sends, count, put, waits) = ap (λ (p : PassState M). p.is_closed) sends.same
   unicast_closes_none outbox_of to bytes v w sent.NoOwner (unput, nobody) = ap (λ (p : PassState M). p.is_closed) unput.sends.same
   unicast_closes_none outbox_of to bytes v w (sent.Full n) (unput, owner, shut, waits) = ap (λ (p : PassState M). p.is_closed) unput.sends.same
 
-  told_closes_none : (outbox_of : M → OutboxId) (asked : Asked) (to : List ℕ) (v w : PassState M) (result : Result (Unit {0}) AnswerError) → IsTold outbox_of asked to v result w → w.is_closed ≡ v.is_closed
+  told_closes_none : (outbox_of : M → OutboxId) (asked : Asked) (to : List ℕ) (v w : PassState M) (result : Result (Unit {0}) AnswerError) → IsTold standings.Apart outbox_of asked to v result w → w.is_closed ≡ v.is_closed
   told_closes_none outbox_of asked to v w (Ok x) (bytes, s, are, unicast) = unicast_closes_none outbox_of to bytes v w s unicast
   told_closes_none outbox_of asked to v w (Err error) (is, inl same) = ap (λ (p : PassState M). p.is_closed) same
   told_closes_none outbox_of asked to v w (Err error) (is, inr (why, inl (gone, same))) = ap (λ (p : PassState M). p.is_closed) same

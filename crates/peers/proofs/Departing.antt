@@ -2,6 +2,7 @@
 use Rattle.std.proofs.Common.{◌≡◌, true, [], append-nil, Some, None, Result, Ok, Err, inl, inr, refl, sym, ap, subst, ◌∙◌}
 use Rattle.outbox.specs.Seated.{OutboxId}
 use Rattle.message_build.specs.Asked.{Asked}
+use Rattle.router.specs.Standing.TheVariants as standings
 use Rattle.router.specs.BusError.{BusError}
 use Rattle.router.specs.BusError.TheVariants as errors
 use Rattle.router.specs.Calls.{Once, Answers, HasNoClaim, HasSeenAll, ClaimsNothing, ClaimsOrIsGone}
@@ -52,7 +53,7 @@ module _ {M : Type 0} where
       called D G u v asked pass is d g
 
   -- a signal of the bus closes no pass and opens none
-  signalled : (outbox_of : M → OutboxId) (asked : Asked) (v w : PassState M) (result : Result (Unit {0}) AnswerError) → IsSignalled outbox_of asked v result w → w.is_closed ≡ v.is_closed
+  signalled : (outbox_of : M → OutboxId) (asked : Asked) (v w : PassState M) (result : Result (Unit {0}) AnswerError) → IsSignalled standings.Last outbox_of asked v result w → w.is_closed ≡ v.is_closed
   signalled outbox_of asked v w (Ok x) (bytes, recipients, refused, are, routed) = ap (λ (p : PassState M). p.is_closed) routed.sends.same
   signalled outbox_of asked v w (Err error) (is, inl same) = ap (λ (p : PassState M). p.is_closed) same
   signalled outbox_of asked v w (Err error) (is, inr (why, inl (gone, same))) = ap (λ (p : PassState M). p.is_closed) same

@@ -15,6 +15,8 @@ use Rattle.router.specs.Passes.{PassState}
 use Rattle.router.specs.Publication.{Publication}
 use Rattle.router.specs.Reply.{Reply}
 use Rattle.router.specs.Sent.{Sent}
+use Rattle.router.specs.Standing.{Standing}
+use Rattle.router.specs.Standing.TheVariants as standings
 use Rattle.router.specs.Sent.TheVariants as sent
 use Rattle.router.specs.Unicasts.{Unicasts}
 use Rattle.unique_name.specs.UniqueNames.{unique_name}
@@ -30,31 +32,31 @@ use Rattle.peers.specs.Rows.{with_holdings}
 
 module _ {M : Type 0} where
   -- what the bus puts by a pass leaves it its connection
-  unicast_keeps : (outbox_of : M → OutboxId) (to bytes : List ℕ) (v w : PassState M) (s : Sent) → Unicasts outbox_of to bytes v s w → w.connection ≡ v.connection
-  unicast_keeps outbox_of to bytes v w (sent.Put n) (owner, sends, count, put, waits) = ap (λ (p : PassState M). p.connection) sends.same
-  unicast_keeps outbox_of to bytes v w sent.NoOwner (unput, nobody) = ap (λ (p : PassState M). p.connection) unput.sends.same
-  unicast_keeps outbox_of to bytes v w (sent.Full n) (unput, owner, shut, waits) = ap (λ (p : PassState M). p.connection) unput.sends.same
+  unicast_keeps : (standing : Standing) (outbox_of : M → OutboxId) (to bytes : List ℕ) (v w : PassState M) (s : Sent) → Unicasts standing outbox_of to bytes v s w → w.connection ≡ v.connection
+  unicast_keeps standing outbox_of to bytes v w (sent.Put n) (owner, sends, count, put, waits) = ap (λ (p : PassState M). p.connection) sends.same
+  unicast_keeps standing outbox_of to bytes v w sent.NoOwner (unput, nobody) = ap (λ (p : PassState M). p.connection) unput.sends.same
+  unicast_keeps standing outbox_of to bytes v w (sent.Full n) (unput, owner, shut, waits) = ap (λ (p : PassState M). p.connection) unput.sends.same
 
-  told_keeps : (outbox_of : M → OutboxId) (asked : Asked) (to : List ℕ) (v w : PassState M) (result : Result (Unit {0}) AnswerError) → IsTold outbox_of asked to v result w → w.connection ≡ v.connection
-  told_keeps outbox_of asked to v w (Ok x) (bytes, s, are, unicast) = unicast_keeps outbox_of to bytes v w s unicast
-  told_keeps outbox_of asked to v w (Err error) (is, inl same) = ap (λ (p : PassState M). p.connection) same
-  told_keeps outbox_of asked to v w (Err error) (is, inr (why, inl (gone, same))) = ap (λ (p : PassState M). p.connection) same
-  told_keeps outbox_of asked to v w (Err error) (is, inr (why, inr (lost, unput))) = ap (λ (p : PassState M). p.connection) unput.sends.same
+  told_keeps : (standing : Standing) (outbox_of : M → OutboxId) (asked : Asked) (to : List ℕ) (v w : PassState M) (result : Result (Unit {0}) AnswerError) → IsTold standing outbox_of asked to v result w → w.connection ≡ v.connection
+  told_keeps standing outbox_of asked to v w (Ok x) (bytes, s, are, unicast) = unicast_keeps standing outbox_of to bytes v w s unicast
+  told_keeps standing outbox_of asked to v w (Err error) (is, inl same) = ap (λ (p : PassState M). p.connection) same
+  told_keeps standing outbox_of asked to v w (Err error) (is, inr (why, inl (gone, same))) = ap (λ (p : PassState M). p.connection) same
+  told_keeps standing outbox_of asked to v w (Err error) (is, inr (why, inr (lost, unput))) = ap (λ (p : PassState M). p.connection) unput.sends.same
 
-  signalled_keeps : (outbox_of : M → OutboxId) (asked : Asked) (v w : PassState M) (result : Result (Unit {0}) AnswerError) → IsSignalled outbox_of asked v result w → w.connection ≡ v.connection
-  signalled_keeps outbox_of asked v w (Ok x) (bytes, recipients, refused, are, routed) = ap (λ (p : PassState M). p.connection) routed.sends.same
-  signalled_keeps outbox_of asked v w (Err error) (is, inl same) = ap (λ (p : PassState M). p.connection) same
-  signalled_keeps outbox_of asked v w (Err error) (is, inr (why, inl (gone, same))) = ap (λ (p : PassState M). p.connection) same
-  signalled_keeps outbox_of asked v w (Err error) (is, inr (why, inr (lost, unput))) = ap (λ (p : PassState M). p.connection) unput.sends.same
+  signalled_keeps : (standing : Standing) (outbox_of : M → OutboxId) (asked : Asked) (v w : PassState M) (result : Result (Unit {0}) AnswerError) → IsSignalled standing outbox_of asked v result w → w.connection ≡ v.connection
+  signalled_keeps standing outbox_of asked v w (Ok x) (bytes, recipients, refused, are, routed) = ap (λ (p : PassState M). p.connection) routed.sends.same
+  signalled_keeps standing outbox_of asked v w (Err error) (is, inl same) = ap (λ (p : PassState M). p.connection) same
+  signalled_keeps standing outbox_of asked v w (Err error) (is, inr (why, inl (gone, same))) = ap (λ (p : PassState M). p.connection) same
+  signalled_keeps standing outbox_of asked v w (Err error) (is, inr (why, inr (lost, unput))) = ap (λ (p : PassState M). p.connection) unput.sends.same
 
-  owner_keeps : (outbox_of : M → OutboxId) (member name : List ℕ) (owner : Option ℕ) (v w : PeerState M) (result : Result (Unit {0}) AnswerError) → TellsOwner outbox_of member name owner v result w → w.pass.connection ≡ v.pass.connection
-  owner_keeps outbox_of member name None v w result (is, same) = ap (λ (p : PeerState M). p.pass.connection) same
-  owner_keeps outbox_of member name (Some n) v w result (made, unicast) = told_keeps outbox_of (told_asked v.serial member name n) (unique_name n) v.pass w.pass result unicast
+  owner_keeps : (standing : Standing) (outbox_of : M → OutboxId) (member name : List ℕ) (owner : Option ℕ) (v w : PeerState M) (result : Result (Unit {0}) AnswerError) → TellsOwner standing outbox_of member name owner v result w → w.pass.connection ≡ v.pass.connection
+  owner_keeps standing outbox_of member name None v w result (is, same) = ap (λ (p : PeerState M). p.pass.connection) same
+  owner_keeps standing outbox_of member name (Some n) v w result (made, unicast) = told_keeps standing outbox_of (told_asked v.serial member name n) (unique_name n) v.pass w.pass result unicast
 
   announced_keeps : (outbox_of : M → OutboxId) (change : Change) (v w : PeerState M) (result : Result (Unit {0}) AnswerError) → Announces outbox_of change v result w → w.pass.connection ≡ v.pass.connection
   announced_keeps outbox_of change v w result (mid, next, lost, changed, acquired, a, (made, signal), c, is) =
-      owner_keeps outbox_of _ change.name change.new next w acquired c
-      ∙ (signalled_keeps outbox_of (change_asked mid.serial change.name change.old change.new) mid.pass next.pass changed signal ∙ owner_keeps outbox_of _ change.name change.old v mid lost a)
+      owner_keeps standings.Next outbox_of _ change.name change.new next w acquired c
+      ∙ (signalled_keeps standings.Next outbox_of (change_asked mid.serial change.name change.old change.new) mid.pass next.pass changed signal ∙ owner_keeps standings.Next outbox_of _ change.name change.old v mid lost a)
 
   -- what was foreseen is what came about
   foreseen_is : (call : NameCall) (change : Option Change) (v w : PassState M) (before next : Publication M) (n m : ℕ) (asked : Result Reply BusError) → m ≡ n → change ≡ change_in (reply_to (after before.history) (command_of n call))
@@ -109,16 +111,16 @@ module _ {M : Type 0} where
       subst P is (u.pass, None, u, (([], append-nil u.pass.seen), refl), tt, inl refl, (refl, refl), inr (stopped, inl (closed, shut)), same)
 
   -- what a peer holds has no part in a change
-  told_holding : (outbox_of : M → OutboxId) (held : HoldingsState) (asked : Asked) (to : List ℕ) (v w : PeerState M) (result : Result (Unit {0}) AnswerError) → HasTold outbox_of asked to v result w → HasTold outbox_of asked to (record v { holdings = held }) result (record w { holdings = held })
-  told_holding outbox_of held asked to v w result (made, unicast) = (ap (λ (s : PeerState M). record s { holdings = held }) made, unicast)
+  told_holding : (standing : Standing) (outbox_of : M → OutboxId) (held : HoldingsState) (asked : Asked) (to : List ℕ) (v w : PeerState M) (result : Result (Unit {0}) AnswerError) → HasTold standing outbox_of asked to v result w → HasTold standing outbox_of asked to (record v { holdings = held }) result (record w { holdings = held })
+  told_holding standing outbox_of held asked to v w result (made, unicast) = (ap (λ (s : PeerState M). record s { holdings = held }) made, unicast)
 
-  owner_holding : (outbox_of : M → OutboxId) (held : HoldingsState) (member name : List ℕ) (owner : Option ℕ) (v w : PeerState M) (result : Result (Unit {0}) AnswerError) → TellsOwner outbox_of member name owner v result w → TellsOwner outbox_of member name owner (record v { holdings = held }) result (record w { holdings = held })
-  owner_holding outbox_of held member name None v w result (is, same) = (is, ap (λ (s : PeerState M). record s { holdings = held }) same)
-  owner_holding outbox_of held member name (Some n) v w result tells = told_holding outbox_of held (told_asked v.serial member name n) (unique_name n) v w result tells
+  owner_holding : (standing : Standing) (outbox_of : M → OutboxId) (held : HoldingsState) (member name : List ℕ) (owner : Option ℕ) (v w : PeerState M) (result : Result (Unit {0}) AnswerError) → TellsOwner standing outbox_of member name owner v result w → TellsOwner standing outbox_of member name owner (record v { holdings = held }) result (record w { holdings = held })
+  owner_holding standing outbox_of held member name None v w result (is, same) = (is, ap (λ (s : PeerState M). record s { holdings = held }) same)
+  owner_holding standing outbox_of held member name (Some n) v w result tells = told_holding standing outbox_of held (told_asked v.serial member name n) (unique_name n) v w result tells
 
   announced_holding : (outbox_of : M → OutboxId) (held : HoldingsState) (change : Change) (v w : PeerState M) (result : Result (Unit {0}) AnswerError) → Announces outbox_of change v result w → Announces outbox_of change (record v { holdings = held }) result (record w { holdings = held })
   announced_holding outbox_of held change v w result (mid, next, lost, changed, acquired, a, (made, signal), c, is) =
-      (record mid { holdings = held }, record next { holdings = held }, lost, changed, acquired, owner_holding outbox_of held _ change.name change.old v mid lost a, (ap (λ (s : PeerState M). record s { holdings = held }) made, signal), owner_holding outbox_of held _ change.name change.new next w acquired c, is)
+      (record mid { holdings = held }, record next { holdings = held }, lost, changed, acquired, owner_holding standings.Next outbox_of held _ change.name change.old v mid lost a, (ap (λ (s : PeerState M). record s { holdings = held }) made, signal), owner_holding standings.Next outbox_of held _ change.name change.new next w acquired c, is)
 
   any_holding : (outbox_of : M → OutboxId) (held : HoldingsState) (change : Option Change) (v w : PeerState M) (result : Result (Unit {0}) AnswerError) → AnnouncesAny outbox_of change v result w → AnnouncesAny outbox_of change (record v { holdings = held }) result (record w { holdings = held })
   any_holding outbox_of held None v w result (is, same) = (is, ap (λ (s : PeerState M). record s { holdings = held }) same)

@@ -2,6 +2,7 @@
 use Rattle.std.proofs.Common.{◌≡◌, ℕ, List, Result, Ok, Err, inr, ap, subst, ◌∙◌}
 use Rattle.std.specs.Prelude.{IfErr, MatchResult}
 use Rattle.outbox.specs.Seated.{OutboxId}
+use Rattle.router.specs.Standing.TheVariants as standings
 use Rattle.router.specs.BusError.{BusError}
 use Rattle.router.specs.Source.TheVariants.{Own}
 use Rattle.router.specs.Passes.{PassState}
@@ -26,7 +27,7 @@ module _ {M : Type 0} where
   seen_connection v w h = ap (λ (p : PassState M). p.connection) h.1
 
   pub broadcast_done : (outbox_of : M → OutboxId) (bytes stamped : List ℕ) (v u w : PeerState M) (result : Result (Unit {0}) AnswerError) (recipients refused : List ℕ) → u ≡ with_pass v u.pass → HasSeenMore v.pass u.pass
-      → IsStamped bytes (name_of v) stamped → IfErr result (λ error. error ≡ NoMemory) → Broadcasts outbox_of Own stamped u.pass result recipients refused w.pass → w ≡ with_pass u w.pass → HasBroadcast outbox_of bytes v result w
+      → IsStamped bytes (name_of v) stamped → IfErr result (λ error. error ≡ NoMemory) → Broadcasts standings.Apart outbox_of Own stamped u.pass result recipients refused w.pass → w ≡ with_pass u w.pass → HasBroadcast outbox_of bytes v result w
   broadcast_done outbox_of bytes stamped v u w (Ok x) recipients refused is seen st err routed same =
       (same ∙ ap (λ (s : PeerState M). with_pass s w.pass) is, inr (u.pass, stamped, recipients, refused, seen, st, routed))
   broadcast_done outbox_of bytes stamped v u w (Err error) recipients refused is seen st err routed same =

@@ -13,6 +13,8 @@ use Rattle.router.specs.Passes.{PassState}
 use Rattle.router.specs.Routes.{HasRouted, IsUnrouted}
 use Rattle.router.specs.Unicasts.{Unicasts, IsUnsent}
 use Rattle.router.specs.Sent.{Sent}
+use Rattle.router.specs.Standing.{Standing}
+use Rattle.router.specs.Standing.TheVariants as standings
 use Rattle.peers.specs.declared.error.AnswerError.{AnswerError}
 use Rattle.peers.specs.declared.error.AnswerError.TheVariants.{NoMemory}
 use Rattle.peers.specs.Answers.{after_serial}
@@ -34,38 +36,38 @@ told_asked serial member name n = signal_asked serial (Some (unique_name n)) mem
 
 module _ {M : Type 0} where
   -- The pass sent this message of the bus to the owner of a name, who may be gone; or nothing was put.
-  abbrev pub IsTold : (M → OutboxId) → Asked → List ℕ → PassState M → Result (Unit {0}) AnswerError → PassState M → Type 0
-  IsTold outbox_of asked to v (Ok _) w = (bytes : List ℕ) × (sent : Sent) × AreAsked asked bytes × Unicasts outbox_of to bytes v sent w
-  IsTold outbox_of asked to v (Err error) w = (error ≡ NoMemory) × ((w ≡ v) ⊎ ((why : BusError) × IsUnsent outbox_of why v w))
+  abbrev pub IsTold : Standing → (M → OutboxId) → Asked → List ℕ → PassState M → Result (Unit {0}) AnswerError → PassState M → Type 0
+  IsTold standing outbox_of asked to v (Ok _) w = (bytes : List ℕ) × (sent : Sent) × AreAsked asked bytes × Unicasts standing outbox_of to bytes v sent w
+  IsTold standing outbox_of asked to v (Err error) w = (error ≡ NoMemory) × ((w ≡ v) ⊎ ((why : BusError) × IsUnsent outbox_of why v w))
 
   -- The pass put this broadcast of the bus to its recipients, or nothing was put.
-  abbrev pub IsSignalled : (M → OutboxId) → Asked → PassState M → Result (Unit {0}) AnswerError → PassState M → Type 0
-  IsSignalled outbox_of asked v (Ok _) w = (bytes recipients refused : List ℕ) × AreAsked asked bytes × HasRouted outbox_of Bus bytes v recipients refused w
-  IsSignalled outbox_of asked v (Err error) w = (error ≡ NoMemory) × ((w ≡ v) ⊎ ((why : BusError) × IsUnrouted outbox_of why v w))
+  abbrev pub IsSignalled : Standing → (M → OutboxId) → Asked → PassState M → Result (Unit {0}) AnswerError → PassState M → Type 0
+  IsSignalled standing outbox_of asked v (Ok _) w = (bytes recipients refused : List ℕ) × AreAsked asked bytes × HasRouted standing outbox_of Bus bytes v recipients refused w
+  IsSignalled standing outbox_of asked v (Err error) w = (error ≡ NoMemory) × ((w ≡ v) ⊎ ((why : BusError) × IsUnrouted outbox_of why v w))
 
   -- one of the bus's messages was made and sent by the peer's pass
   abbrev pub IsMade : PeerState M → PeerState M → Type 0
   IsMade v w = w ≡ with_pass (after_serial v) w.pass
 
-  abbrev pub HasTold : (M → OutboxId) → Asked → List ℕ → PeerState M → Result (Unit {0}) AnswerError → PeerState M → Type 0
-  HasTold outbox_of asked to v result w = IsMade v w × IsTold outbox_of asked to v.pass result w.pass
+  abbrev pub HasTold : Standing → (M → OutboxId) → Asked → List ℕ → PeerState M → Result (Unit {0}) AnswerError → PeerState M → Type 0
+  HasTold standing outbox_of asked to v result w = IsMade v w × IsTold standing outbox_of asked to v.pass result w.pass
 
-  abbrev pub HasSignalled : (M → OutboxId) → Asked → PeerState M → Result (Unit {0}) AnswerError → PeerState M → Type 0
-  HasSignalled outbox_of asked v result w = IsMade v w × IsSignalled outbox_of asked v.pass result w.pass
+  abbrev pub HasSignalled : Standing → (M → OutboxId) → Asked → PeerState M → Result (Unit {0}) AnswerError → PeerState M → Type 0
+  HasSignalled standing outbox_of asked v result w = IsMade v w × IsSignalled standing outbox_of asked v.pass result w.pass
 
   -- a connection is told by this signal that a name was lost or acquired; nobody is nobody
-  abbrev pub TellsOwner : (M → OutboxId) → List ℕ → List ℕ → Option ℕ → PeerState M → Result (Unit {0}) AnswerError → PeerState M → Type 0
-  TellsOwner outbox_of member name None v result w = (result ≡ Ok tt) × (w ≡ v)
-  TellsOwner outbox_of member name (Some n) v result w = HasTold outbox_of (told_asked v.serial member name n) (unique_name n) v result w
+  abbrev pub TellsOwner : Standing → (M → OutboxId) → List ℕ → List ℕ → Option ℕ → PeerState M → Result (Unit {0}) AnswerError → PeerState M → Type 0
+  TellsOwner standing outbox_of member name None v result w = (result ≡ Ok tt) × (w ≡ v)
+  TellsOwner standing outbox_of member name (Some n) v result w = HasTold standing outbox_of (told_asked v.serial member name n) (unique_name n) v result w
 
   -- A change of a name's owner: NameLost to the old one, NameOwnerChanged to all whose rules hold of it, NameAcquired to
-  -- the new one, in this order, and nothing else. The result is the first error of these, if there is one.
+  -- the new one, in this order, and nothing else. They stand at the place of the next command, which makes the change. The result is the first error of these, if there is one.
   abbrev pub Announces : (M → OutboxId) → Change → PeerState M → Result (Unit {0}) AnswerError → PeerState M → Type 0
   Announces outbox_of change v result w =
       (mid next : PeerState M) × (lost changed acquired : Result (Unit {0}) AnswerError)
-      × TellsOwner outbox_of (codes "NameLost") change.name change.old v lost mid
-      × HasSignalled outbox_of (change_asked mid.serial change.name change.old change.new) mid changed next
-      × TellsOwner outbox_of (codes "NameAcquired") change.name change.new next acquired w
+      × TellsOwner standings.Next outbox_of (codes "NameLost") change.name change.old v lost mid
+      × HasSignalled standings.Next outbox_of (change_asked mid.serial change.name change.old change.new) mid changed next
+      × TellsOwner standings.Next outbox_of (codes "NameAcquired") change.name change.new next acquired w
       × (result ≡ result_and (result_and lost changed) acquired)
 
   -- a change, if there is one, is announced
@@ -73,10 +75,10 @@ module _ {M : Type 0} where
   AnnouncesAny outbox_of None v result w = (result ≡ Ok tt) × (w ≡ v)
   AnnouncesAny outbox_of (Some change) v result w = Announces outbox_of change v result w
 
-  -- the client's own unique name is there: NameOwnerChanged, then NameAcquired
+  -- the client's own unique name is there: NameOwnerChanged, then NameAcquired, at the place of the command that made it
   abbrev pub AnnouncesArrival : (M → OutboxId) → PeerState M → Result (Unit {0}) AnswerError → PeerState M → Type 0
   AnnouncesArrival outbox_of v result w =
       (mid : PeerState M) × (changed acquired : Result (Unit {0}) AnswerError)
-      × HasSignalled outbox_of (change_asked v.serial (name_of v) None (Some v.pass.connection)) v changed mid
-      × TellsOwner outbox_of (codes "NameAcquired") (name_of v) (Some v.pass.connection) mid acquired w
+      × HasSignalled standings.Last outbox_of (change_asked v.serial (name_of v) None (Some v.pass.connection)) v changed mid
+      × TellsOwner standings.Last outbox_of (codes "NameAcquired") (name_of v) (Some v.pass.connection) mid acquired w
       × (result ≡ result_and changed acquired)

@@ -10,6 +10,7 @@ use Rattle.bus_messages.specs.Sent.{error_asked}
 use Rattle.bus_messages.specs.declared.error_name.ErrorName.TheVariants.{NoReply, NoMemory}
 use Rattle.bus_messages.specs.declared.exceeded.Exceeded.TheVariants.{Calls, MessageLen}
 use Rattle.unique_name.specs.UniqueNames.{unique_name}
+use Rattle.router.specs.Standing.TheVariants as standings
 use Rattle.peers.specs.declared.error.AnswerError.{AnswerError}
 use Rattle.peers.specs.declared.refused.Refused.TheVariants.{Error}
 use Rattle.peers.specs.Announcements.{HasTold}
@@ -58,7 +59,7 @@ module _ {M : Type 0} where
 
   -- who waits for the reply to the call of this serial is told that none will come, unless memory was refused
   abbrev pub AnswersCaller : (M → OutboxId) → ℕ → ℕ → PeerState M → PeerState M → Type 0
-  AnswersCaller outbox_of caller serial v w = (outcome : Result (Unit {0}) AnswerError) × HasTold outbox_of (gone_asked v.serial caller serial) (unique_name caller) v outcome w
+  AnswersCaller outbox_of caller serial v w = (outcome : Result (Unit {0}) AnswerError) × HasTold standings.Apart outbox_of (gone_asked v.serial caller serial) (unique_name caller) v outcome w
 
   -- this many were told so, one after the other
   abbrev pub AnswersMany : (M → OutboxId) → ℕ → PeerState M → PeerState M → Type 0

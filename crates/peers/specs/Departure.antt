@@ -19,6 +19,7 @@ use Rattle.peers.specs.declared.leaving.Leaving.TheVariants.{Done, Ended, Refuse
 use Rattle.peers.specs.Announcements.{HasSignalled, change_asked}
 use Rattle.peers.specs.Calling.{AnswersCallers}
 use Rattle.peers.specs.OwnerChanges.{ChangesOwner}
+use Rattle.router.specs.Standing.TheVariants as standings
 use Rattle.peers.specs.Passing.{HasSeenMore, with_pass}
 use Rattle.peers.specs.PeerState.{PeerState, name_of}
 use Rattle.peers.specs.Rows.{HasCalled}
@@ -56,7 +57,7 @@ module _ {M : Type 0} where
   -- What closing the pass comes to, by what the bus answered: that the client's own name is gone is announced.
   abbrev pub IsClosing : (M → OutboxId) → Result Reply BusError → PeerState M → Leaving → PeerState M → Type 0
   IsClosing outbox_of (Ok _) v leaving w =
-      (leaving ≡ Done) × (announced : Result (Unit {0}) AnswerError) × HasSignalled outbox_of (change_asked v.serial (name_of v) (Some v.pass.connection) None) v announced w
+      (leaving ≡ Done) × (announced : Result (Unit {0}) AnswerError) × HasSignalled standings.Last outbox_of (change_asked v.serial (name_of v) (Some v.pass.connection) None) v announced w
   IsClosing outbox_of (Err errors.NoMemory) v leaving w = (leaving ≡ Refused) × (w ≡ v)
   IsClosing outbox_of (Err _) v leaving w = (leaving ≡ Ended) × (w ≡ v)
 

@@ -19,6 +19,7 @@ use Rattle.router.specs.Routes.{HasRouted, HasNotPut, IsUnrouted}
 use Rattle.router.specs.Unicasts.{Unicasts, IsUnsent}
 use Rattle.router.specs.Sent.{Sent}
 use Rattle.router.specs.Sent.TheVariants as sent
+use Rattle.router.specs.Standing.TheVariants as standings
 use Rattle.peers.specs.declared.error.AnswerError.{AnswerError}
 use Rattle.peers.specs.declared.error.AnswerError.TheVariants.{NoMemory}
 use Rattle.peers.specs.declared.request.Request.{Request}
@@ -70,7 +71,7 @@ module _ {M : Type 0} where
   HasBroadcast outbox_of bytes v (Ok _) w =
       (w ≡ with_pass v w.pass)
       × ((HasSeenMore v.pass w.pass × (IsForNobody bytes v w.pass ⊎ IsOverLimit bytes (name_of v)))
-      ⊎ ((mid : PassState M) × (stamped recipients refused : List ℕ) × HasSeenMore v.pass mid × IsStamped bytes (name_of v) stamped × HasRouted outbox_of Own stamped mid recipients refused w.pass))
+      ⊎ ((mid : PassState M) × (stamped recipients refused : List ℕ) × HasSeenMore v.pass mid × IsStamped bytes (name_of v) stamped × HasRouted standings.Apart outbox_of Own stamped mid recipients refused w.pass))
   HasBroadcast outbox_of bytes v (Err error) w =
       (error ≡ NoMemory) × (w ≡ with_pass v w.pass) × (mid : PassState M) × HasSeenMore v.pass mid × ((w.pass ≡ mid) ⊎ ((why : BusError) × IsUnrouted outbox_of why mid w.pass))
 
@@ -94,7 +95,7 @@ module _ {M : Type 0} where
   abbrev pub SendsAtOnce : (M → OutboxId) → List ℕ → List ℕ → List ℕ → PeerState M → Result (Unit {0}) AnswerError → PeerState M → Type 0
   SendsAtOnce outbox_of bytes to stamped v result w =
       (mid : PassState M) × (asked : Result Sent BusError)
-      × MatchResult asked (λ sent. Unicasts outbox_of to stamped v.pass sent mid) (λ error. IsUnsent outbox_of error v.pass mid) × Concludes bytes asked (with_pass v mid) result w
+      × MatchResult asked (λ sent. Unicasts standings.Apart outbox_of to stamped v.pass sent mid) (λ error. IsUnsent outbox_of error v.pass mid) × Concludes bytes asked (with_pass v mid) result w
 
   -- the same, maybe after the name was found to have no owner, so that nothing was put
   abbrev pub SendsStamped : (M → OutboxId) → List ℕ → List ℕ → List ℕ → PeerState M → Result (Unit {0}) AnswerError → PeerState M → Type 0

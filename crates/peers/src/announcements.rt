@@ -3,8 +3,10 @@
 ghost use Rattle.std.specs.Prelude.{◌≡◌, ◌∷◌, [], codes, None, Some, IfErr, option_map};
 ghost use Rattle.bus_messages.specs.Sent.{Builds};
 ghost use Rattle.message_build.specs.Asked.{Asked};
+ghost use Rattle.message_view.specs.Message.{Message};
+ghost use Rattle.message_view.specs.Valid.{Valid};
 ghost use Rattle.unique_name.specs.UniqueNames.{unique_name};
-ghost use Rattle.peers.specs.Announcements.{Announces, AnnouncesArrival, AnnouncesAny, TellsOwner, HasSignalled, HasTold, IsTold, change_asked, told_asked, owner_text};
+ghost use Rattle.peers.specs.Announcements.{Announces, AnnouncesArrival, TellsOwner, HasSignalled, HasTold, IsTold, change_asked, told_asked, owner_text};
 ghost use Rattle.peers.specs.Broadcasts.{Broadcasts};
 ghost use Rattle.peers.specs.Passing.{with_pass};
 ghost use Rattle.peers.specs.PeerState.{name_of};
@@ -16,7 +18,7 @@ use bus_messages::{BuildError, Bytes, UniqueName, name_acquired, name_lost, name
 use message_view::View;
 use outbox::Counts;
 use owners::Change;
-use router::{BusBrand, Mailbox, OpenGate, RouteLists, Source};
+use router::{BusBrand, Control, Mailbox, OpenGate, RouteLists, Source, Standing};
 use std::sync::Wait;
 
 impl<B: BusBrand, M: Mailbox> Peer<B, M> {
@@ -31,36 +33,20 @@ impl<B: BusBrand, M: Mailbox> Peer<B, M> {
         &mut self,
         context: &Context<'_, B, M, W, R>,
         lists: &mut RouteLists,
+        control: &mut Control<B, M, R>,
         change: &Change,
     ) -> Result<(), AnswerError>
         ensures announced { Announces M.outbox_of change.now self.old result self.new }
         ensures error { IfErr result (λ error. error ≡ AnswerError.NoMemory) }
+        ensures control { control.new ≡ control.old }
     {
+        let at = Standing::Next;
         let name = change.name.as_str();
-        let lost = self.tell_old_owner(context, change.old, name);
-        let changed = self.tell_changed(context, lists, name, change.old, change.new);
-        let acquired = self.tell_new_owner(context, change.new, name);
+        let lost = self.tell_old_owner(context, control, at, change.old, name);
+        let changed =
+            self.tell_changed(context, lists, control, at, name, change.old, change.new);
+        let acquired = self.tell_new_owner(context, control, at, change.new, name);
         lost.and(changed).and(acquired)
-    }
-
-    /// Announces a change, if there is one.
-    ///
-    /// # Errors
-    ///
-    /// As those of `announce`.
-    pub(crate) fn announce_any<W: Wait, R: Wait + Drop>(
-        &mut self,
-        context: &Context<'_, B, M, W, R>,
-        lists: &mut RouteLists,
-        change: &Option<Change>,
-    ) -> Result<(), AnswerError>
-        ensures announced { AnnouncesAny M.outbox_of change.now self.old result self.new }
-        ensures error { IfErr result (λ error. error ≡ AnswerError.NoMemory) }
-    {
-        match change {
-            Some(change) => self.announce(context, lists, change),
-            None => Ok(()),
-        }
     }
 
     /// Announces the client's own unique name, after Hello.
@@ -72,14 +58,18 @@ impl<B: BusBrand, M: Mailbox> Peer<B, M> {
         &mut self,
         context: &Context<'_, B, M, W, R>,
         lists: &mut RouteLists,
+        control: &mut Control<B, M, R>,
     ) -> Result<(), AnswerError>
         ensures announced { AnnouncesArrival M.outbox_of self.old result self.new }
         ensures error { IfErr result (λ error. error ≡ AnswerError.NoMemory) }
+        ensures control { control.new ≡ control.old }
     {
+        let at = Standing::Last;
         let number = self.pass.connection();
         let name = UniqueName::new(number);
-        let changed = self.tell_changed(context, lists, name.as_str(), None, Some(number));
-        let acquired = self.tell_new_owner(context, Some(number), name.as_str());
+        let changed =
+            self.tell_changed(context, lists, control, at, name.as_str(), None, Some(number));
+        let acquired = self.tell_new_owner(context, control, at, Some(number), name.as_str());
         changed.and(acquired)
     }
 
@@ -92,24 +82,30 @@ impl<B: BusBrand, M: Mailbox> Peer<B, M> {
         &mut self,
         context: &Context<'_, B, M, W, R>,
         lists: &mut RouteLists,
+        control: &mut Control<B, M, R>,
     ) -> Result<(), AnswerError>
-        ensures announced { HasSignalled M.outbox_of (change_asked self.old.serial (name_of self.old) (Some self.old.pass.connection) None) self.old result self.new }
+        ensures announced { HasSignalled Standing.Last M.outbox_of (change_asked self.old.serial (name_of self.old) (Some self.old.pass.connection) None) self.old result self.new }
+        ensures control { control.new ≡ control.old }
     {
+        let at = Standing::Last;
         let number = self.pass.connection();
         let name = UniqueName::new(number);
-        self.tell_changed(context, lists, name.as_str(), Some(number), None)
+        self.tell_changed(context, lists, control, at, name.as_str(), Some(number), None)
     }
 
     fn tell_old_owner<W: Wait, R: Wait + Drop>(
         &mut self,
         context: &Context<'_, B, M, W, R>,
+        control: &mut Control<B, M, R>,
+        at: Standing,
         owner: Option<u64>,
         name: &str,
     ) -> Result<(), AnswerError>
-        ensures { TellsOwner M.outbox_of (codes "NameLost") name.now owner self.old result self.new }
+        ensures told { TellsOwner at M.outbox_of (codes "NameLost") name.now owner self.old result self.new }
+        ensures control { control.new ≡ control.old }
     {
         match owner {
-            Some(old) => self.tell_lost(context, old, name),
+            Some(old) => self.tell_lost(context, control, at, old, name),
             None => Ok(()),
         }
     }
@@ -117,13 +113,16 @@ impl<B: BusBrand, M: Mailbox> Peer<B, M> {
     fn tell_new_owner<W: Wait, R: Wait + Drop>(
         &mut self,
         context: &Context<'_, B, M, W, R>,
+        control: &mut Control<B, M, R>,
+        at: Standing,
         owner: Option<u64>,
         name: &str,
     ) -> Result<(), AnswerError>
-        ensures { TellsOwner M.outbox_of (codes "NameAcquired") name.now owner self.old result self.new }
+        ensures told { TellsOwner at M.outbox_of (codes "NameAcquired") name.now owner self.old result self.new }
+        ensures control { control.new ≡ control.old }
     {
         match owner {
-            Some(new) => self.tell_acquired(context, new, name),
+            Some(new) => self.tell_acquired(context, control, at, new, name),
             None => Ok(()),
         }
     }
@@ -131,29 +130,35 @@ impl<B: BusBrand, M: Mailbox> Peer<B, M> {
     fn tell_lost<W: Wait, R: Wait + Drop>(
         &mut self,
         context: &Context<'_, B, M, W, R>,
+        control: &mut Control<B, M, R>,
+        at: Standing,
         old: u64,
         name: &str,
     ) -> Result<(), AnswerError>
-        ensures { HasTold M.outbox_of (told_asked self.old.serial (codes "NameLost") name.now old) (unique_name old) self.old result self.new }
+        ensures control { control.new ≡ control.old }
+        ensures told { HasTold at M.outbox_of (told_asked self.old.serial (codes "NameLost") name.now old) (unique_name old) self.old result self.new }
     {
         let to = UniqueName::new(old);
         let serial = self.serials.take();
         let built_message = name_lost(context.alloc, serial, to.as_str(), name);
-        self.tell(context, &to, built_message)
+        self.tell_named(context, control, at, &to, built_message)
     }
 
     fn tell_acquired<W: Wait, R: Wait + Drop>(
         &mut self,
         context: &Context<'_, B, M, W, R>,
+        control: &mut Control<B, M, R>,
+        at: Standing,
         new: u64,
         name: &str,
     ) -> Result<(), AnswerError>
-        ensures { HasTold M.outbox_of (told_asked self.old.serial (codes "NameAcquired") name.now new) (unique_name new) self.old result self.new }
+        ensures control { control.new ≡ control.old }
+        ensures told { HasTold at M.outbox_of (told_asked self.old.serial (codes "NameAcquired") name.now new) (unique_name new) self.old result self.new }
     {
         let to = UniqueName::new(new);
         let serial = self.serials.take();
         let built_message = name_acquired(context.alloc, serial, to.as_str(), name);
-        self.tell(context, &to, built_message)
+        self.tell_named(context, control, at, &to, built_message)
     }
 
     /// Sends a message of the bus to one connection, which may be gone by now.
@@ -167,7 +172,7 @@ impl<B: BusBrand, M: Mailbox> Peer<B, M> {
         to: &UniqueName,
         built_message: Result<Bytes, BuildError>,
     ) -> Result<(), AnswerError>
-        ensures pass { (asked : Asked) → Builds asked built_message → IsTold M.outbox_of asked (unique_name to.now) self.old.pass result self.new.pass }
+        ensures pass { (asked : Asked) → Builds asked built_message → IsTold Standing.Apart M.outbox_of asked (unique_name to.now) self.old.pass result self.new.pass }
         ensures same { self.new ≡ with_pass self.old self.new.pass }
     {
         let Ok(bytes) = built_message else {
@@ -180,15 +185,50 @@ impl<B: BusBrand, M: Mailbox> Peer<B, M> {
         }
     }
 
+    // Sends a message of the bus about names to one connection, at its place in the history.
+    fn tell_named<W: Wait, R: Wait + Drop>(
+        &mut self,
+        context: &Context<'_, B, M, W, R>,
+        control: &mut Control<B, M, R>,
+        at: Standing,
+        to: &UniqueName,
+        built_message: Result<Bytes, BuildError>,
+    ) -> Result<(), AnswerError>
+        ensures pass { (asked : Asked) → Builds asked built_message → IsTold at M.outbox_of asked (unique_name to.now) self.old.pass result self.new.pass }
+        ensures same { self.new ≡ with_pass self.old self.new.pass }
+        ensures control { control.new ≡ control.old }
+    {
+        let Ok(bytes) = built_message else {
+            return Err(AnswerError::NoMemory);
+        };
+        context.bus.show(context.rt, context.alloc, None, &bytes);
+        let sent = control.send_to(
+            context.rt,
+            context.alloc,
+            &mut self.pass,
+            at,
+            Source::Bus,
+            to.as_str(),
+            &bytes,
+        );
+        match sent {
+            Ok(_) => Ok(()),
+            Err(_) => Err(AnswerError::NoMemory),
+        }
+    }
+
     fn tell_changed<W: Wait, R: Wait + Drop>(
         &mut self,
         context: &Context<'_, B, M, W, R>,
         lists: &mut RouteLists,
+        control: &mut Control<B, M, R>,
+        at: Standing,
         name: &str,
         old: Option<u64>,
         new: Option<u64>,
     ) -> Result<(), AnswerError>
-        ensures { HasSignalled M.outbox_of (change_asked self.old.serial name.now old new) self.old result self.new }
+        ensures control { control.new ≡ control.old }
+        ensures signalled { HasSignalled at M.outbox_of (change_asked self.old.serial name.now old new) self.old result self.new }
     {
         let serial = self.serials.take();
         let old = unique_name_of(old);
@@ -203,11 +243,43 @@ impl<B: BusBrand, M: Mailbox> Peer<B, M> {
         let Ok(bytes) = built_message else {
             return Err(AnswerError::NoMemory);
         };
-        let view = View::of_message(bytes.as_slice());
-        self.broadcast(context, Source::Bus, &view, &bytes, lists)
+        self.signal(context, lists, control, at, &bytes)
     }
 
-    /// Routes a broadcast. The lists are then of this broadcast: its recipients, and those whose outbox refused it.
+    // Puts a broadcast of the bus about names to its recipients, at its place in the history.
+    fn signal<W: Wait, R: Wait + Drop>(
+        &mut self,
+        context: &Context<'_, B, M, W, R>,
+        lists: &mut RouteLists,
+        control: &mut Control<B, M, R>,
+        at: Standing,
+        bytes: &Bytes,
+    ) -> Result<(), AnswerError>
+        requires { (m : Message) × Valid bytes.now m }
+        ensures error { IfErr result (λ error. error ≡ AnswerError.NoMemory) }
+        ensures routed { Broadcasts at M.outbox_of Source.Bus bytes.now self.old.pass result lists.new.recipients.items lists.new.refused.items self.new.pass }
+        ensures same { self.new ≡ with_pass self.old self.new.pass }
+        ensures control { control.new ≡ control.old }
+    {
+        let view = View::of_message(bytes.as_slice());
+        context.bus.show(context.rt, context.alloc, None, bytes);
+        let routed = control.broadcast(
+            context.rt,
+            context.alloc,
+            &mut self.pass,
+            at,
+            Source::Bus,
+            &view,
+            bytes,
+            lists,
+        );
+        match routed {
+            Ok(()) => Ok(()),
+            Err(_) => Err(AnswerError::NoMemory),
+        }
+    }
+
+    /// Routes a broadcast of the client. The lists are then of this broadcast: its recipients, and those whose outbox refused it.
     ///
     /// # Errors
     ///
@@ -215,7 +287,6 @@ impl<B: BusBrand, M: Mailbox> Peer<B, M> {
     pub(crate) fn broadcast<W: Wait, R: Wait + Drop>(
         &mut self,
         context: &Context<'_, B, M, W, R>,
-        source: Source,
         view: &View<'_>,
         bytes: &Bytes,
         lists: &mut RouteLists,
@@ -223,18 +294,15 @@ impl<B: BusBrand, M: Mailbox> Peer<B, M> {
         // The view is that of the bytes.
         requires { view.now ≡ bytes.now }
         ensures error { IfErr result (λ error. error ≡ AnswerError.NoMemory) }
-        ensures routed { Broadcasts M.outbox_of source bytes.now self.old.pass result lists.new.recipients.items lists.new.refused.items self.new.pass }
+        ensures routed { Broadcasts Standing.Apart M.outbox_of Source.Own bytes.now self.old.pass result lists.new.recipients.items lists.new.refused.items self.new.pass }
         ensures same { self.new ≡ with_pass self.old self.new.pass }
     {
-        let number = match source {
-            Source::Own => Some(self.pass.connection()),
-            Source::Bus => None,
-        };
+        let number = Some(self.pass.connection());
         context.bus.show(context.rt, context.alloc, number, bytes);
         let routed = self.pass.broadcast(
             context.rt,
             context.alloc,
-            source,
+            Source::Own,
             view,
             bytes,
             &OpenGate,
@@ -242,29 +310,27 @@ impl<B: BusBrand, M: Mailbox> Peer<B, M> {
         );
         match routed {
             Ok(()) => {
-                self.note_broadcast(source, lists);
+                self.note_broadcast(lists);
                 Ok(())
             }
             Err(_) => Err(AnswerError::NoMemory),
         }
     }
 
-    // Counts a broadcast, and notes whether it was for anybody, unless it is the bus's.
-    fn note_broadcast(&mut self, source: Source, lists: &RouteLists)
+    // Counts a broadcast, and notes whether it was for anybody.
+    fn note_broadcast(&mut self, lists: &RouteLists)
         ensures { self.new ≡ self.old }
     {
-        if source == Source::Own {
-            self.was_heard = !lists.recipients.is_empty();
-            let cost = lists.cost();
-            self.own.tally().add(Counts {
-                broadcasts: 1,
-                recipients: lists.recipients.len() as u64,
-                refused: lists.refused.len() as u64,
-                programs: u64::from(cost.runs),
-                steps: cost.steps,
-                unicasts: 0,
-            });
-        }
+        self.was_heard = !lists.recipients.is_empty();
+        let cost = lists.cost();
+        self.own.tally().add(Counts {
+            broadcasts: 1,
+            recipients: lists.recipients.len() as u64,
+            refused: lists.refused.len() as u64,
+            programs: u64::from(cost.runs),
+            steps: cost.steps,
+            unicasts: 0,
+        });
     }
 }
 

@@ -25,12 +25,16 @@ use std::sync::Wait;
 pub fn join<B: BusBrand, M: Mailbox, R: Wait + Drop>(
     control: &mut Control<B, M, R>,
     pass: &mut Pass<B, M>,
-    own: &OwnOutbox<M>,
+    own: &mut OwnOutbox<M>,
 ) -> Result<(), Refused>
-    ensures { Joins M.outbox_of own.now.outbox pass.old control.old result pass.new control.new }
+    ensures joins { Joins M.outbox_of own.old.outbox pass.old control.old result pass.new control.new }
+    ensures own { own.new ≡ own.old }
 {
     let mailbox = own.share()?;
-    match control.connect(pass, mailbox) {
+    let Some(turn) = own.take_turn() else {
+        return Err(Refused::Error(ErrorName::NoMemory));
+    };
+    match control.connect(pass, mailbox, turn) {
         Ok(_) => Ok(()),
         Err(error) => Err(Refused::from(error)),
     }
@@ -57,15 +61,15 @@ pub fn put_refusal<B: BusBrand, M: Mailbox, W: Wait, R: Wait + Drop>(
     let serial = Serials::new().take();
     let bytes = error_bytes(context.alloc, serial, None, request, name)?;
     context.bus.show(context.rt, context.alloc, None, &bytes);
-    match Item::new(context.alloc, bytes) {
+    match Item::new(context.alloc, bytes, None) {
         Ok(message) => own.put(context.rt, message),
         Err(_) => Err(AnswerError::NoMemory),
     }
 }
 
 impl<B: BusBrand, M: Mailbox> Peer<B, M> {
-    /// Answers Hello with the client's name, and announces it. Nobody gets one of these messages before all are put. The caller has
-    /// held the lock of the bus since the client joined it.
+    /// Answers Hello with the client's name, and announces it, by who has held the lock of the bus since the client joined it. Nobody
+    /// gets one of these messages before all are put.
     ///
     /// # Errors
     ///
@@ -75,6 +79,7 @@ impl<B: BusBrand, M: Mailbox> Peer<B, M> {
         &mut self,
         context: &Context<'_, B, M, W, R>,
         lists: &mut RouteLists,
+        control: &mut Control<B, M, R>,
         request: Request,
     ) -> Result<(), AnswerError>
         ensures registered { Registers M.outbox_of request self.old result self.new }
@@ -83,7 +88,7 @@ impl<B: BusBrand, M: Mailbox> Peer<B, M> {
         let name = UniqueName::new(self.pass.connection());
         self.pass.hold(context.alloc);
         let answered = self.answer_text(context, request, name.as_str());
-        let announced = self.announce_arrival(context, lists);
+        let announced = self.announce_arrival(context, lists, control);
         self.pass.release();
         answered.and(announced)
     }

@@ -6,7 +6,7 @@ ghost use Rattle.peers.specs.Departure.{Leaves, HasLeft, AreGivenUp, GivesUpName
 use crate::context::Context;
 use crate::peer::Peer;
 use owners::MAX_CLAIMS;
-use router::{BusBrand, BusError, Mailbox, NameCall, Reply, RouteLists};
+use router::{BusBrand, BusError, Control, Mailbox, NameCall, Reply, RouteLists};
 use std::sync::Wait;
 
 /// How far a peer's leaving came.
@@ -116,7 +116,7 @@ impl<B: BusBrand, M: Mailbox> Peer<B, M> {
     {
         let mut control = context.bus.control(context.rt);
         let closed = control.close(&mut self.pass);
-        self.announce_closed(context, lists, closed)
+        self.announce_closed(context, lists, &mut control, closed)
     }
 
     // Announces that the client's unique name is gone, if its pass was closed.
@@ -124,6 +124,7 @@ impl<B: BusBrand, M: Mailbox> Peer<B, M> {
         &mut self,
         context: &Context<'_, B, M, W, R>,
         lists: &mut RouteLists,
+        control: &mut Control<B, M, R>,
         closed: Result<Reply, BusError>,
     ) -> Leaving
         ensures { IsClosing M.outbox_of closed self.old result self.new }
@@ -131,7 +132,7 @@ impl<B: BusBrand, M: Mailbox> Peer<B, M> {
         match closed {
             Ok(_) => {
                 context.bus.tally_of_gone().add(self.own.tally().counts());
-                let _ = self.announce_departure(context, lists);
+                let _ = self.announce_departure(context, lists, control);
                 Leaving::Done
             }
             Err(BusError::NoMemory) => Leaving::Refused,

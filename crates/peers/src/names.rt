@@ -104,7 +104,7 @@ impl<B: BusBrand, M: Mailbox> Peer<B, M> {
         ensures error { IfErr result.1 (λ error. error ≡ AnswerError.NoMemory) }
     {
         self.pass.hold(context.alloc);
-        let announced = self.announce(context, lists, change);
+        let announced = self.announce(context, lists, control, change);
         let asked = control.change_name(&mut self.pass, call);
         if asked.is_ok() {
             self.pass.release();

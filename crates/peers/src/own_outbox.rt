@@ -1,10 +1,10 @@
 // The outbox of a client, as its own session puts messages there.
 
-ghost use Rattle.std.specs.Prelude.{◌≡◌, [], false, true, None, IfErr, IfOk, IsTrue, MatchBool, MatchResult};
+ghost use Rattle.std.specs.Prelude.{◌≡◌, [], false, true, None, IfErr, IfOk, IfSome, IsTrue, MatchBool, MatchResult};
 ghost use Rattle.peers.specs.Answers.{IsShutIf, after_own_put, after_refusal};
 
 use crate::error::AnswerError;
-use outbox::{Item, Seat, Tally};
+use outbox::{Item, Seat, Tally, Turn};
 use router::Mailbox;
 use std::alloc::AllocError;
 use std::marker::Model;
@@ -17,24 +17,27 @@ use std::sync::Wait;
 pub struct OwnOutbox<M: Mailbox> {
     mailbox: M,
     seat: Seat,
+    // Until the client joins the bus.
+    turn: Option<Turn>,
     // Something was put that nobody was asked to write out.
     is_waiting: bool,
 }
 
 impl<M: Mailbox> Model for OwnOutbox<M> {
-    ghost use Rattle.std.specs.Prelude.{◌≡◌};
+    ghost use Rattle.std.specs.Prelude.{◌≡◌, IfSome};
     ghost use Rattle.peers.specs.PeerState.{OwnState};
 
     ghost Value = { OwnState };
 
     ghost view = { λ o. record { outbox = o.seat.outbox; put = o.seat.view.put; knows_shut = o.seat.knows_shut; is_waiting = o.is_waiting } };
 
-    ghost invariant = { λ o. o.seat.outbox ≡ M.outbox_of o.mailbox };
+    ghost invariant = { λ o. (o.seat.outbox ≡ M.outbox_of o.mailbox) × IfSome o.turn (λ t. (t.queue ≡ (M.outbox_of o.mailbox).queue) × (t.last ≡ 0)) };
 }
 
 impl<M: Mailbox> OwnOutbox<M> {
-    /// What goes through the outbox of this mailbox. Nothing is put yet.
-    pub fn new(mailbox: M) -> OwnOutbox<M>
+    /// What goes through the outbox of this mailbox, whose turn it is. Nothing is put yet.
+    pub fn new(mailbox: M, turn: Turn) -> OwnOutbox<M>
+        requires { (turn.queue ≡ (M.outbox_of mailbox).queue) × (turn.last ≡ 0) }
         ensures new { (result.put ≡ []) × (result.is_waiting ≡ false) }
         ensures outbox { result.outbox ≡ M.outbox_of mailbox }
     {
@@ -42,6 +45,7 @@ impl<M: Mailbox> OwnOutbox<M> {
         OwnOutbox {
             mailbox,
             seat,
+            turn: Some(turn),
             is_waiting: false,
         }
     }
@@ -53,13 +57,22 @@ impl<M: Mailbox> OwnOutbox<M> {
         self.mailbox.share()
     }
 
+    /// The outbox's turn, for the bus. It is there until it was taken.
+    pub(crate) fn take_turn(&mut self) -> Option<Turn>
+        ensures turn { IfSome result (λ t. (t.queue ≡ self.old.outbox.queue) × (t.last ≡ 0)) }
+        ensures same { self.new ≡ self.old }
+    {
+        self.turn.take()
+    }
+
     /// Puts a message that is no broadcast.
     ///
     /// # Errors
     ///
     /// `Slow` if the outbox is full or shut. Nothing is put then, and the outbox is known to be shut.
     pub fn put<W: Wait>(&mut self, rt: &W, message: Item) -> Result<(), AnswerError>
-        requires { message.mark ≡ None }
+        requires mark { message.mark ≡ None }
+        requires place { message.place ≡ None }
         ensures put { MatchResult result (λ _. self.new ≡ after_own_put message self.old) (λ error. (error ≡ AnswerError.Slow) × (self.new ≡ after_refusal error self.old)) }
         ensures slow { IfErr result (λ error. IsShutIf error self.new) }
         ensures outbox { self.new.outbox ≡ self.old.outbox }

@@ -20,7 +20,7 @@ use bus_messages::{Bytes, ErrorName, Exceeded, UniqueName};
 use message_build::{StampError, stamp};
 use message_view::{Kind, View};
 use outbox::Counts;
-use router::{BusBrand, BusError, Mailbox, RouteLists, Sent, Source};
+use router::{BusBrand, BusError, Mailbox, RouteLists, Sent, Source, Standing};
 use std::alloc::Global;
 use std::sync::Wait;
 
@@ -45,7 +45,7 @@ impl<B: BusBrand, M: Mailbox> Peer<B, M> {
         match stamp_message(context.alloc, view, &self.name) {
             Ok(bytes) => {
                 let stamped = View::of_message(bytes.as_slice());
-                self.broadcast(context, Source::Own, &stamped, &bytes, lists)
+                self.broadcast(context, &stamped, &bytes, lists)
             }
             Err(StampError::TooLarge) => Ok(()),
             Err(StampError::NoMemory) => Err(AnswerError::NoMemory),
@@ -147,7 +147,7 @@ impl<B: BusBrand, M: Mailbox> Peer<B, M> {
         to: &str,
         bytes: &Bytes,
     ) -> Result<Sent, BusError>
-        ensures sent { MatchResult result (λ sent. Unicasts M.outbox_of to.now bytes.now self.old.pass sent self.new.pass) (λ error. IsUnsent M.outbox_of error self.old.pass self.new.pass) }
+        ensures sent { MatchResult result (λ sent. Unicasts Standing.Apart M.outbox_of to.now bytes.now self.old.pass sent self.new.pass) (λ error. IsUnsent M.outbox_of error self.old.pass self.new.pass) }
         ensures same { self.new ≡ with_pass self.old self.new.pass }
     {
         self.pass

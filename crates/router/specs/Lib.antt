@@ -1,6 +1,8 @@
 pub use Rattle.passes.specs.Reach
 pub use Rattle.passes.specs.declared.error.BusError
 pub use Rattle.passes.specs.declared.reading.Source
+pub use Rattle.passes.specs.declared.standing.Standing
+pub use Rattle.passes.specs.Standings
 pub use Rattle.passes.specs.Connections
 pub use Rattle.passes.specs.Does
 pub use Rattle.passes.specs.History

@@ -11,7 +11,7 @@ ghost use Rattle.passes.specs.Readings.{AddsMatch, RemovesMatch, Attaches};
 use bpf_code::Ins;
 use monitors::Monitors;
 use open_calls::{OpenCall, OpenCalls, Shards};
-use outbox::Tally;
+use outbox::{Tally, Turn};
 use owners::WellKnown;
 use passes::{
     BusBrand, BusError, Capacity, Control, HistoryPrefix, IndexKey, KeptPasses, Mailbox, Opened,
@@ -184,10 +184,13 @@ impl<B: BusBrand, M: Mailbox, R: Wait + Drop> Bus<B, M, R> {
         rt: &impl Wait,
         pass: &mut Pass<B, M>,
         mailbox: M,
+        turn: Turn,
     ) -> Result<Reply, BusError>
+        // The turn is that of the mailbox's outbox, and nothing was put by it.
+        requires { (turn.queue ≡ (M.outbox_of mailbox).queue) × (turn.last ≡ 0) }
         ensures { Once (λ before next. Connects pass.old before mailbox result pass.new next) }
     {
-        self.control(rt).connect(pass, mailbox)
+        self.control(rt).connect(pass, mailbox, turn)
     }
 
     /// Adds an entry with a rule (AddMatch).

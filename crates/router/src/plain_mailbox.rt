@@ -1,6 +1,8 @@
 // Mailboxes that nothing writes out.
 
-use outbox::Outbox;
+ghost use Rattle.std.specs.Prelude.{◌≡◌, IfOk};
+
+use outbox::{Outbox, Room, Turn};
 use program_table::Handle;
 use routing::Mailbox;
 use std::alloc::{AllocError, Global};
@@ -13,11 +15,12 @@ pub struct PlainMailbox {
 }
 
 impl PlainMailbox {
-    /// A mailbox with an outbox of its own.
-    pub fn new(alloc: Global) -> Result<PlainMailbox, AllocError> {
-        Ok(PlainMailbox {
-            outbox: Outbox::new(alloc)?,
-        })
+    /// A mailbox with an outbox of its own, and the outbox's turn.
+    pub fn new(alloc: Global) -> Result<(PlainMailbox, Turn), AllocError>
+        ensures { IfOk result (λ r. (r.1.queue ≡ r.0.outbox.queue) × (r.1.last ≡ 0)) }
+    {
+        let (outbox, turn) = Outbox::with_turn(alloc, Room::standard())?;
+        Ok((PlainMailbox { outbox }, turn))
     }
 }
 

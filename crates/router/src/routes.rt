@@ -8,7 +8,7 @@ use crate::bus::Bus;
 use arrayvec::ArrayVec;
 use bytes::Bytes;
 use message_view::View;
-use passes::{BusBrand, BusError, MAX_RECIPIENTS, Mailbox, Pass, RouteLists, Source};
+use passes::{BusBrand, BusError, MAX_RECIPIENTS, Mailbox, Pass, RouteLists, Source, Standing};
 use routing::{Gate, OpenGate};
 use std::alloc::Global;
 use std::sync::Wait;
@@ -33,7 +33,7 @@ impl<B: BusBrand, M: Mailbox, R: Wait + Drop> Bus<B, M, R> {
     ) -> Result<ArrayVec<u64, MAX_RECIPIENTS>, BusError>
         // The view is that of the bytes.
         requires { view.now ≡ bytes.now }
-        ensures routed { MatchResult result (λ refused. HasRoutedToSome M.outbox_of source bytes.now pass.old refused.items pass.new) (λ error. IsUnrouted M.outbox_of error pass.old pass.new) }
+        ensures routed { MatchResult result (λ refused. HasRoutedToSome Standing.Apart M.outbox_of source bytes.now pass.old refused.items pass.new) (λ error. IsUnrouted M.outbox_of error pass.old pass.new) }
         ensures open { IfOk result (λ _. IsOpenTo source pass.old) }
     {
         self.route_gated(rt, alloc, pass, source, view, bytes, &OpenGate)
@@ -53,7 +53,7 @@ impl<B: BusBrand, M: Mailbox, R: Wait + Drop> Bus<B, M, R> {
     ) -> Result<ArrayVec<u64, MAX_RECIPIENTS>, BusError>
         // The view is that of the bytes.
         requires { view.now ≡ bytes.now }
-        ensures routed { MatchResult result (λ refused. HasRoutedToSome M.outbox_of source bytes.now pass.old refused.items pass.new) (λ error. IsUnrouted M.outbox_of error pass.old pass.new) }
+        ensures routed { MatchResult result (λ refused. HasRoutedToSome Standing.Apart M.outbox_of source bytes.now pass.old refused.items pass.new) (λ error. IsUnrouted M.outbox_of error pass.old pass.new) }
         ensures open { IfOk result (λ _. IsOpenTo source pass.old) }
     {
         let mut lists = RouteLists::new();

@@ -6,7 +6,7 @@ ghost use Rattle.passes.specs.Unicasts.{Unicasts, IsUnsent};
 
 use crate::bus::Bus;
 use bytes::Bytes;
-use passes::{BusBrand, BusError, Mailbox, Pass, Sent, Source};
+use passes::{BusBrand, BusError, Mailbox, Pass, Sent, Source, Standing};
 use std::alloc::Global;
 use std::sync::Wait;
 
@@ -26,7 +26,7 @@ impl<B: BusBrand, M: Mailbox, R: Wait + Drop> Bus<B, M, R> {
         to: &str,
         bytes: &Bytes,
     ) -> Result<Sent, BusError>
-        ensures sent { MatchResult result (λ sent. Unicasts M.outbox_of to.now bytes.now pass.old sent pass.new) (λ error. IsUnsent M.outbox_of error pass.old pass.new) }
+        ensures sent { MatchResult result (λ sent. Unicasts Standing.Apart M.outbox_of to.now bytes.now pass.old sent pass.new) (λ error. IsUnsent M.outbox_of error pass.old pass.new) }
         ensures open { IfOk result (λ _. IsOpenTo Source.Own pass.old) }
     {
         pass.send_to(rt, alloc, Source::Own, to, bytes)

@@ -1,9 +1,12 @@
 -- One recipient after the other.
-use Rattle.std.proofs.Common.{ℕ, zero, suc, ◌≡◌, ◌+◌, ◌<◌, ◌≤◌, ◌==◌, ◌&&◌, ◌||◌, not, Bool, true, false, true≢false, cond, List, [], ◌∷◌, ◌++◌, length, take, drop, get_or, refl, sym, ap, ◌∙◌, subst, arith, eqb-true, ne_eqb, take-append-drop, length-append, Option, Some, None, IsSome, IfSome, IsSomeAnd}
+use Rattle.std.proofs.Common.{ℕ, zero, suc, ◌≡◌, ◌+◌, ◌<◌, ◌≤◌, ◌==◌, ◌&&◌, ◌||◌, not, Bool, true, false, true≢false, cond, List, [], ◌∷◌, ◌++◌, length, take, drop, get_or, refl, sym, ap, ◌∙◌, subst, arith, eq-eqb, eqb-true, ne_eqb, take-append-drop, length-append, Option, Some, None, IsSome, IfSome, IsSomeAnd}
+use Rattle.std.proofs.lemmas.Bool.{or_right}
 use Rattle.std.proofs.lemmas.List.{take_more}
 use Rattle.outbox.specs.Items.{Item}
 use Rattle.routing.specs.SenderView.{RecipientSeatView}
 use Rattle.routing.specs.RecipientSeats.{seat_at, is_in, RisesFrom, HasSeat, AllHave}
+use Rattle.routing.specs.Turns.{TurnsView, StandsAt, MayStand, KeepsTurns}
+use Rattle.routing.proofs.Lending.{stands_still, stands_alike}
 use Rattle.routing.specs.Puts.{end_of, PutThere, PutAt, RoutedAt, PutTo}
 
 end_above : (n : ℕ) (xs : List ℕ) → RisesFrom n xs → n ≤ end_of n xs
@@ -73,6 +76,26 @@ may_put item k recipients d refused old recipient_seats P lt rising all fits h =
     let same = subst R out (h.each m) in
     let Q : Option RecipientSeatView → Type 0 = λ o. IsSomeAnd o P in
     subst Q (sym same.1) (some_and (seat_at m old) P (all_at recipients k d old lt all) (fits m))
+
+in_first : (m : ℕ) (ms : List ℕ) → is_in m (m ∷ ms) ≡ true
+in_first m ms = ap (λ b. b || is_in m ms) (eq-eqb m m refl)
+
+pub in_at : (xs : List ℕ) (k d : ℕ) → k < length xs → is_in (get_or xs k d) xs ≡ true
+in_at [] k d lt = absurd (omega (arith, lt))
+in_at (x ∷ xs) zero d lt = in_first x xs
+in_at (x ∷ xs) (suc k) d lt = or_right (x == get_or xs k d) (is_in (get_or xs k d) xs) (in_at xs k d (omega (arith, lt)))
+
+-- the message may be put at the next recipient's outbox too
+pub stands_next : (item : Item) (k : ℕ) (recipients : List ℕ) (d : ℕ) (refused : List ℕ) (old recipient_seats : List RecipientSeatView) (turns later : TurnsView) → k < length recipients → RisesFrom 0 recipients
+    → MayStand item.place recipients old turns → PutTo item (take k recipients) refused old recipient_seats → KeepsTurns turns later → StandsAt item.place (get_or recipients k d) recipient_seats later
+stands_next item k recipients d refused old recipient_seats turns later lt rising may h keeps =
+    let m : ℕ = get_or recipients k d in
+    let done : List ℕ = take k recipients in
+    let r = next_above recipients k d lt rising in
+    let out : is_in m done ≡ false = not_in 0 m done (rises_front 0 done (m ∷ []) r) (rises_last 0 m done r) in
+    let R : Bool → Type 0 = λ b. RoutedAt item b (is_in m refused) (seat_at m old) (seat_at m recipient_seats) in
+    let same = subst R out (h.each m) in
+    stands_alike item.place m old recipient_seats later (sym same.1) (stands_still item.place m old turns later keeps (may m (in_at recipients k d lt)))
 
 -- what one more put makes of a recipient_seat: of its recipient's, or of another
 pub put_more : (item : Item) (e put done refused : Bool) (old recipient_seats new : Option RecipientSeatView) (before after : RecipientSeatView) → (e ≡ true → (done ≡ false) × (recipient_seats ≡ Some before)) → RoutedAt item done refused old recipient_seats

@@ -103,12 +103,13 @@ routed_fit item recipients refused origin count old new is fits put n = routed_f
 pub sent_fit : (m : ℕ) (item : Item) (put : Bool) (origin count : ℕ) (old new : List RecipientSeatView) → item.mark ≡ None → AllFit origin count old → PutAt m item put old new → AllFit origin count new
 sent_fit m item put origin count old new is fits now n = sent_fits origin count item (m == n) ((m == n) && not put) (seat_at n old) (seat_at n new) is (put_once item m put old new now n) (fits n)
 
-pub routed : (bytes recipients refused : List ℕ) (old new : SenderView) → RoutedTo bytes recipients refused old new → Routed bytes recipients refused old new
-routed bytes recipients refused old new h = record {
+pub routed : (place : Option ℕ) (bytes recipients refused : List ℕ) (old new : SenderView) → RoutedTo place bytes recipients refused old new → Routed place bytes recipients refused old new
+routed place bytes recipients refused old new h = record {
   count_is = h.count_is;
   item = h.item;
   bytes_are = h.bytes_are;
   mark_is = h.mark_is ∙ ap (λ (o : ℕ). Some (o, old.count + 1)) (sym h.origin_is) ∙ ap (λ (c : ℕ). Some (new.origin, c)) (sym h.count_is);
+  place_is = h.place_is;
   puts = λ n. routed_put h.item (is_in n recipients) (is_in n refused) (seat_at n old.recipient_seats) (seat_at n new.recipient_seats) (h.change.each n);
   rising = h.change.rising;
   listed = λ n e. routed_listed h.item (is_in n recipients) (is_in n refused) (seat_at n old.recipient_seats) (seat_at n new.recipient_seats) (h.change.each n) e;
@@ -146,7 +147,7 @@ kept_fit recipients origin count recipient_seats fits n =
     pick false = tt
 
 -- each recipient_seat is as it was, but that nothing waits there
-written_at : (n : ℕ) (recipient_seats : List RecipientSeatView) → seat_at n (all_written recipient_seats) ≡ option_map written (seat_at n recipient_seats)
+pub written_at : (n : ℕ) (recipient_seats : List RecipientSeatView) → seat_at n (all_written recipient_seats) ≡ option_map written (seat_at n recipient_seats)
 written_at n [] = refl
 written_at n (s ∷ ss) = pick (s.recipient == n) (written_at n ss)
   where

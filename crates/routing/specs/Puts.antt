@@ -4,6 +4,7 @@ use Rattle.outbox.specs.Items.{Item}
 use Rattle.outbox.specs.Views.{blank, after_put}
 use Rattle.routing.specs.SenderView.{RecipientView, RecipientSeatView, SenderView}
 use Rattle.routing.specs.RecipientSeats.{seat_at, is_in, RisesFrom, Lists}
+use Rattle.routing.specs.Turns.{TurnView, turn_at}
 
 -- a recipient_seat that was there is as it was; a new one is at a recipient's outbox, and has put nothing
 abbrev pub TakenAt : List RecipientView → ℕ → Option RecipientSeatView → Option RecipientSeatView → Type 0
@@ -36,6 +37,15 @@ abbrev pub RoutedAt : Item → Bool → Bool → Option RecipientSeatView → Op
 RoutedAt item false refused old new = (refused ≡ false) × (new ≡ old)
 RoutedAt item true refused old new = (s : RecipientSeatView) × (t : RecipientSeatView) × (old ≡ Some s) × (new ≡ Some t) × PutThere item (not refused) s t
 
+-- the turn of the outbox of the connection with this number was used for a put at this place, or for its refusal, and no other
+pub record TurnUsed (n place : ℕ) (old new : List TurnView) : Type 0 where
+  pub before : TurnView
+  pub after : TurnView
+  pub was : turn_at n old ≡ Some before
+  pub queue : after.queue ≡ before.queue
+  pub last : after.last ≤ place
+  pub now : (m : ℕ) → turn_at m new ≡ cond (n == m) (Some after) (turn_at m old)
+
 -- one above the last number, or n
 abbrev pub end_of : ℕ → List ℕ → ℕ
 end_of n [] = n
@@ -48,10 +58,11 @@ pub record PutTo (item : Item) (recipients refused : List ℕ) (old new : List R
   pub below : end_of 0 refused ≤ end_of 0 recipients
 
 -- the next broadcast was put to each of these recipients, but to those that refused it, and nothing else changes
-pub record RoutedTo (bytes recipients refused : List ℕ) (old new : SenderView) : Type 0 where
+pub record RoutedTo (place : Option ℕ) (bytes recipients refused : List ℕ) (old new : SenderView) : Type 0 where
   pub item : Item
   pub bytes_are : item.bytes ≡ bytes
   pub mark_is : item.mark ≡ Some (old.origin, old.count + 1)
+  pub place_is : item.place ≡ place
   pub origin_is : new.origin ≡ old.origin
   pub count_is : new.count ≡ old.count + 1
   pub change : PutTo item recipients refused old.recipient_seats new.recipient_seats

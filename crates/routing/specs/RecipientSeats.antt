@@ -109,14 +109,15 @@ pub record Keeps (newcomers : List RecipientView) (old new : SenderView) : Type 
   pub waits : (n : ℕ) → waits_at n old.recipient_seats ≡ true → waits_at n new.recipient_seats ≡ true
   pub takes : (n : ℕ) → takes_at n new.recipient_seats ≡ takes_at n old.recipient_seats
 
--- One broadcast more, with these bytes. At a recipient that isn't listed just that item was put; at a listed one and at
+-- One broadcast more, with these bytes, at this place if at any. At a recipient that isn't listed just that item was put; at a listed one and at
 -- every other outbox nothing was. A listed one is a recipient whose outbox is shut, and if the seat knew that before,
 -- the recipient is listed. Each recipient's outbox waits to be written out, a listed one's too
-pub record Routed (bytes recipients refused : List ℕ) (old new : SenderView) : Type 0 where
+pub record Routed (place : Option ℕ) (bytes recipients refused : List ℕ) (old new : SenderView) : Type 0 where
   pub count_is : new.count ≡ old.count + 1
   pub item : Item
   pub bytes_are : item.bytes ≡ bytes
   pub mark_is : item.mark ≡ Some (new.origin, new.count)
+  pub place_is : item.place ≡ place
   pub puts : (n : ℕ) → puts_at n new.recipient_seats ≡ puts_at n old.recipient_seats ++ cond (is_put n recipients refused) (item ∷ []) []
   pub rising : RisesFrom 0 refused
   pub listed : (n : ℕ) → is_in n refused ≡ true → (is_in n recipients ≡ true) × (shut_at n new.recipient_seats ≡ true)
@@ -127,13 +128,14 @@ abbrev pub is_sent : Sent → Bool
 is_sent sent.Put = true
 is_sent sent.Full = false
 
--- A message that isn't a broadcast, with these bytes, was put at this recipient's outbox, or nowhere, and nothing else
+-- A message that isn't a broadcast, with these bytes, at this place if at any, was put at this recipient's outbox, or nowhere, and nothing else
 -- was put. The outbox waits to be written out. No count is used
-pub record SentTo (recipient : ℕ) (bytes : List ℕ) (put : Bool) (old new : SenderView) : Type 0 where
+pub record SentTo (place : Option ℕ) (recipient : ℕ) (bytes : List ℕ) (put : Bool) (old new : SenderView) : Type 0 where
   pub count_is : new.count ≡ old.count
   pub item : Item
   pub bytes_are : item.bytes ≡ bytes
   pub mark_is : item.mark ≡ None
+  pub place_is : item.place ≡ place
   pub puts : (n : ℕ) → puts_at n new.recipient_seats ≡ puts_at n old.recipient_seats ++ cond ((recipient == n) && put) (item ∷ []) []
   pub waits : waits_at recipient new.recipient_seats ≡ true
 

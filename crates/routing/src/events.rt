@@ -14,16 +14,17 @@ pub(crate) fn begin(
     alloc: Global,
     bytes: Bytes,
     mark: Option<(u64, u64)>,
+    place: Option<u64>,
     puts: usize,
 ) -> Result<Shares, AllocError>
     requires { (holding : Bool) × IsSettled holding releases.old }
-    ensures shares { IfOk result (λ shares. (shares.left ≡ puts) × (shares.message.mark ≡ mark) × (shares.message.bytes ≡ bytes)) }
+    ensures shares { IfOk result (λ shares. (shares.left ≡ puts) × (shares.message.mark ≡ mark) × (shares.message.place ≡ place) × (shares.message.bytes ≡ bytes)) }
     ensures putting { IfOk result (λ shares. IsPutting shares.message.hold releases.new) }
     ensures err { OnErr result (releases.new ≡ releases.old) }
 {
     match releases {
-        Some(releases) => releases.begin(alloc, bytes, mark, puts),
-        None => begin_first(releases, alloc, bytes, mark, puts),
+        Some(releases) => releases.begin(alloc, bytes, mark, place, puts),
+        None => begin_first(releases, alloc, bytes, mark, place, puts),
     }
 }
 
@@ -33,14 +34,15 @@ fn begin_first(
     alloc: Global,
     bytes: Bytes,
     mark: Option<(u64, u64)>,
+    place: Option<u64>,
     puts: usize,
 ) -> Result<Shares, AllocError>
-    ensures shares { IfOk result (λ shares. (shares.left ≡ puts) × (shares.message.mark ≡ mark) × (shares.message.bytes ≡ bytes)) }
+    ensures shares { IfOk result (λ shares. (shares.left ≡ puts) × (shares.message.mark ≡ mark) × (shares.message.place ≡ place) × (shares.message.bytes ≡ bytes)) }
     ensures putting { IfOk result (λ shares. IsPutting shares.message.hold releases.new) }
     ensures err { OnErr result (releases.new ≡ releases.old) }
 {
     let mut first = Releases::new(alloc)?;
-    let shares = first.begin(alloc, bytes, mark, puts)?;
+    let shares = first.begin(alloc, bytes, mark, place, puts)?;
     *releases = Some(first);
     Ok(shares)
 }

@@ -1,13 +1,15 @@
 // A sender's seats at the outboxes of its recipients.
 
-ghost use Rattle.std.specs.Prelude.{◌≡◌, ◌<◌, ◌≤◌, ◌++◌, ◌∷◌, [], ℕ, cond, false, IfOk, OnOk, IfSome, IsSomeAnd, filter, length, position};
+ghost use Rattle.std.specs.Prelude.{◌≡◌, ◌<◌, ◌≤◌, ◌++◌, ◌∷◌, [], ℕ, cond, false, Some, IfOk, OnOk, IfSome, IsSomeAnd, filter, length, position};
 ghost use Rattle.outbox.specs.Views.{Follows, blank};
 ghost use Rattle.routing.specs.SenderView.{RecipientSeatView};
 ghost use Rattle.routing.specs.RecipientSeats.{RisesFrom, is_for, is_in, seat_at, all_written, HasSeat, AllHave};
+ghost use Rattle.routing.specs.Turns.{queue_at, KeepsTurns, MayStand, StandsAt};
 ghost use Rattle.routing.specs.Puts.{PutThere, PutAt, PutTo, SeatsTaken};
 
 use crate::mailbox::Mailbox;
 use crate::recipient::Recipient;
+use crate::turns::Turns;
 use arrayvec::ArrayVec;
 use outbox::{Item, Outbox, Seat, Shares};
 use std::alloc::AllocError;
@@ -43,13 +45,19 @@ impl<C> RecipientSeat<C> {
         self.recipient
     }
 
-    /// Puts an item there, and says whether it was put.
-    pub(crate) fn put<R: Wait>(&mut self, rt: &R, item: Item) -> bool
-        requires { Follows self.old.seat.view.put item.mark }
-        ensures { PutThere item result self.old self.new }
+    /// Puts an item there, and says whether it was put. One that bears a place is put by the outbox's turn.
+    pub(crate) fn put<R: Wait>(&mut self, rt: &R, turns: &mut Turns, item: Item) -> bool
+        requires follows { Follows self.old.seat.view.put item.mark }
+        requires stands { IfSome item.place (λ p. (p ≡ turns.old.latest) × (queue_at self.old.recipient turns.old.turns ≡ Some self.old.outbox.queue)) }
+        ensures put { PutThere item result self.old self.new }
+        ensures turns { KeepsTurns turns.old turns.new }
     {
         self.is_waiting = true;
-        self.outbox.put(rt, &mut self.seat, item).is_ok()
+        let put = match item.place() {
+            None => self.outbox.put(rt, &mut self.seat, item),
+            Some(_) => turns.put(rt, self.recipient, &self.outbox, &mut self.seat, item),
+        };
+        put.is_ok()
     }
 }
 
@@ -84,14 +92,17 @@ pub(crate) fn place_of<C>(recipient_seats: &[RecipientSeat<C>], recipient: u64) 
 pub(crate) fn put_at<C, R: Wait>(
     rt: &R,
     recipient_seats: &mut [RecipientSeat<C>],
+    turns: &mut Turns,
     recipient: u64,
     item: Item,
 ) -> bool
-    requires { IsSomeAnd (seat_at recipient recipient_seats.old) (λ s. Follows s.seat.view.put item.mark) }
-    ensures { PutAt recipient item result recipient_seats.old recipient_seats.new }
+    requires follows { IsSomeAnd (seat_at recipient recipient_seats.old) (λ s. Follows s.seat.view.put item.mark) }
+    requires stands { StandsAt item.place recipient recipient_seats.old turns.old }
+    ensures put { PutAt recipient item result recipient_seats.old recipient_seats.new }
+    ensures turns { KeepsTurns turns.old turns.new }
 {
     match place_of(recipient_seats, recipient) {
-        Some(place) => recipient_seats[place].put(rt, item),
+        Some(place) => recipient_seats[place].put(rt, turns, item),
         None => unreachable!(),
     }
 }
@@ -126,6 +137,7 @@ fn note(refused: &mut ArrayVec<u64, 4096>, recipient: u64, put: bool)
 pub(crate) fn put_all<C, R: Wait>(
     rt: &R,
     recipient_seats: &mut [RecipientSeat<C>],
+    turns: &mut Turns,
     recipients: &[u64],
     shares: &mut Shares,
     refused: &mut ArrayVec<u64, 4096>,
@@ -135,12 +147,14 @@ pub(crate) fn put_all<C, R: Wait>(
     requires shares { shares.old.left ≡ length recipients.now }
     requires few { length recipients.now ≤ 4096 }
     requires follows { (n : ℕ) → IfSome (seat_at n recipient_seats.old) (λ s. Follows s.seat.view.put shares.old.message.mark) }
+    requires stands { MayStand shares.old.message.place recipients.now recipient_seats.old turns.old }
     requires none { refused.old.items ≡ [] }
+    ensures turns { KeepsTurns turns.old turns.new }
     ensures put { PutTo shares.old.message recipients.now refused.new.items recipient_seats.old recipient_seats.new }
     ensures left { (shares.new.left ≡ 0) × (shares.new.message ≡ shares.old.message) }
 {
     for recipient in recipients {
-        let put = put_at(rt, recipient_seats, *recipient, shares.next());
+        let put = put_at(rt, recipient_seats, turns, *recipient, shares.next());
         note(refused, *recipient, put);
     }
 }

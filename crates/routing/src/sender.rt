@@ -2,6 +2,7 @@
 
 ghost use Rattle.std.specs.Prelude.{◌≡◌, ◌<◌, ◌≤◌, [], ◌∷◌, ◌↔◌, ℕ, false, true, IfOk, OnOk, OnErr, None, filter, is_some, length};
 ghost use Rattle.routing.specs.RecipientSeats.{RisesFrom, all_written, is_in, seat_at, shut_at, waits_at, HasSeat, AllHave, AllFit, Keeps, Routed, SentTo, Unrouted, is_sent};
+ghost use Rattle.routing.specs.Turns.{KeepsTurns, MayStand, StandsAt};
 ghost use Rattle.routing.specs.Puts.{RoutedTo, PutOnce};
 
 use crate::error::RouteError;
@@ -9,6 +10,7 @@ use crate::events::{begin, end};
 use crate::gate::Gate;
 use crate::mailbox::Mailbox;
 use crate::recipient::Recipient;
+use crate::turns::Turns;
 use crate::recipient_seats::{
     RecipientSeat, place_of, push_out_all, put_all, put_at, retain, shut_waiting, take_seat,
 };
@@ -96,14 +98,18 @@ impl<C: Mailbox> Sender<C> {
         alloc: Global,
         recipients: &[u64],
         bytes: &Bytes,
+        place: Option<u64>,
+        turns: &mut Turns,
         gate: &G,
         refused: &mut ArrayVec<u64, 4096>,
     ) -> Result<(), RouteError>
         requires few { length recipients.now ≤ 4096 }
         requires rising { RisesFrom 0 recipients.now }
         requires seats { AllHave recipients.now self.old.recipient_seats }
+        requires stands { MayStand place recipients.now self.old.recipient_seats turns.old }
         requires none { refused.old.items ≡ [] }
-        ensures ok { OnOk result (Routed bytes.now recipients.now refused.new.items self.old self.new) }
+        ensures turns { KeepsTurns turns.old turns.new }
+        ensures ok { OnOk result (Routed place bytes.now recipients.now refused.new.items self.old self.new) }
         ensures keeps { Keeps [] self.old self.new }
         ensures err { OnErr result (self.new ≡ self.old) }
         ensures counts { (result ≡ Err RouteError.Counts) ↔ (self.old.count ≡ u64.MAX) }
@@ -111,7 +117,7 @@ impl<C: Mailbox> Sender<C> {
         if self.count == u64::MAX {
             return Err(RouteError::Counts);
         }
-        self.put_broadcast(rt, alloc, recipients, bytes, gate, refused)?;
+        self.put_broadcast(rt, alloc, recipients, bytes, place, turns, gate, refused)?;
         Ok(())
     }
 
@@ -122,6 +128,8 @@ impl<C: Mailbox> Sender<C> {
         alloc: Global,
         recipients: &[u64],
         bytes: &Bytes,
+        place: Option<u64>,
+        turns: &mut Turns,
         gate: &G,
         refused: &mut ArrayVec<u64, 4096>,
     ) -> Result<(), AllocError>
@@ -129,17 +137,20 @@ impl<C: Mailbox> Sender<C> {
         requires few { length recipients.now ≤ 4096 }
         requires rising { RisesFrom 0 recipients.now }
         requires seats { AllHave recipients.now self.old.recipient_seats }
+        requires stands { MayStand place recipients.now self.old.recipient_seats turns.old }
         requires none { refused.old.items ≡ [] }
-        ensures ok { OnOk result (RoutedTo bytes.now recipients.now refused.new.items self.old self.new) }
+        ensures turns { KeepsTurns turns.old turns.new }
+        ensures ok { OnOk result (RoutedTo place bytes.now recipients.now refused.new.items self.old self.new) }
         ensures err { OnErr result (self.new ≡ self.old) }
     {
         let mark = Some((self.origin, self.count + 1));
         let bytes = bytes.clone()?;
-        let mut shares = begin(&mut self.releases, alloc, bytes, mark, recipients.len())?;
+        let mut shares = begin(&mut self.releases, alloc, bytes, mark, place, recipients.len())?;
         gate.before(0);
         put_all(
             rt,
             self.recipient_seats.as_mut_slice(),
+            turns,
             recipients,
             &mut shares,
             refused,
@@ -157,9 +168,13 @@ impl<C: Mailbox> Sender<C> {
         alloc: Global,
         recipient: u64,
         bytes: &Bytes,
+        place: Option<u64>,
+        turns: &mut Turns,
     ) -> Result<Sent, AllocError>
-        requires { HasSeat recipient self.old.recipient_seats }
-        ensures sent { IfOk result (λ sent. SentTo recipient bytes.now (is_sent sent) self.old self.new) }
+        requires has { HasSeat recipient self.old.recipient_seats }
+        requires stands { StandsAt place recipient self.old.recipient_seats turns.old }
+        ensures turns { KeepsTurns turns.old turns.new }
+        ensures sent { IfOk result (λ sent. SentTo place recipient bytes.now (is_sent sent) self.old self.new) }
         ensures err { OnErr result (self.new ≡ self.old) }
         ensures keeps { Keeps [] self.old self.new }
 
@@ -167,8 +182,8 @@ impl<C: Mailbox> Sender<C> {
         ensures full { result ≡ Ok Sent.Full → shut_at recipient self.new.recipient_seats ≡ true }
         ensures shut { shut_at recipient self.old.recipient_seats ≡ true → IfOk result (λ sent. sent ≡ Sent.Full) }
     {
-        let item = self.message(alloc, bytes.clone()?)?;
-        if self.put(rt, recipient, item) {
+        let item = self.message(alloc, bytes.clone()?, place)?;
+        if self.put(rt, turns, recipient, item) {
             Ok(Sent::Put)
         } else {
             Ok(Sent::Full)
@@ -176,23 +191,30 @@ impl<C: Mailbox> Sender<C> {
     }
 
     // Puts a message that isn't a broadcast, and says whether it was put.
-    fn put<R: Wait>(&mut self, rt: &R, recipient: u64, item: Item) -> bool
+    fn put<R: Wait>(&mut self, rt: &R, turns: &mut Turns, recipient: u64, item: Item) -> bool
         requires has { HasSeat recipient self.old.recipient_seats }
+        requires stands { StandsAt item.place recipient self.old.recipient_seats turns.old }
         requires unmarked { item.mark ≡ None }
-        ensures { PutOnce recipient item result self.old self.new }
+        ensures put { PutOnce recipient item result self.old self.new }
+        ensures turns { KeepsTurns turns.old turns.new }
     {
-        put_at(rt, self.recipient_seats.as_mut_slice(), recipient, item)
+        put_at(rt, self.recipient_seats.as_mut_slice(), turns, recipient, item)
     }
 
     /// A message that isn't a broadcast, for a put at one outbox. It is held with what is put while the sender holds.
-    pub fn message(&mut self, alloc: Global, bytes: Bytes) -> Result<Item, AllocError>
-        ensures ok { IfOk result (λ item. (item.bytes ≡ bytes) × (item.mark ≡ None)) }
+    pub fn message(
+        &mut self,
+        alloc: Global,
+        bytes: Bytes,
+        place: Option<u64>,
+    ) -> Result<Item, AllocError>
+        ensures ok { IfOk result (λ item. (item.bytes ≡ bytes) × (item.mark ≡ None) × (item.place ≡ place)) }
         ensures same { self.new ≡ self.old }
     {
         if !self.is_holding {
-            return Item::new(alloc, bytes);
+            return Item::new(alloc, bytes, place);
         }
-        let mut shares = begin(&mut self.releases, alloc, bytes, None, 1)?;
+        let mut shares = begin(&mut self.releases, alloc, bytes, None, place, 1)?;
         let item = shares.next();
         end(&mut self.releases, shares, self.is_holding);
         Ok(item)

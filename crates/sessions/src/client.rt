@@ -9,6 +9,7 @@ use crate::error::SessionError;
 use crate::greeting::greet;
 use crossbeam_utils::rule::Protocol;
 use message_view::View;
+use outbox::Turn;
 use peers::{
     AllInstructions, AnswerError, BusBrand, Command, Context, Identity, Mailbox, OwnOutbox, Peer,
     Published, RouteLists, Shown, StateReader,
@@ -48,12 +49,13 @@ where
 }
 
 impl<B: BusBrand, M: Mailbox> Client<B, M> {
-    /// A client that has said nothing. All that it gets goes to the mailbox.
-    pub(crate) fn new(mailbox: M, identity: Identity) -> Client<B, M>
+    /// A client that has said nothing. All that it gets goes to the mailbox, whose outbox's turn it is.
+    pub(crate) fn new(mailbox: M, turn: Turn, identity: Identity) -> Client<B, M>
+        requires { (turn.queue ≡ (M.outbox_of mailbox).queue) × (turn.last ≡ 0) }
         ensures { result ≡ record { outbox = Some (M.outbox_of mailbox); peer = None } }
     {
         Client {
-            own: Some(OwnOutbox::new(mailbox)),
+            own: Some(OwnOutbox::new(mailbox, turn)),
             peer: None,
             identity,
             all: None,

@@ -51,7 +51,7 @@ fn let_in<B: BusBrand, M: Mailbox, W: Wait, R: Wait + Drop>(
     context: &Context<'_, B, M, W, R>,
     lists: &mut RouteLists,
     mut pass: Pass<B, M>,
-    own: OwnOutbox<M>,
+    mut own: OwnOutbox<M>,
     identity: Identity,
     view: &View<'_>,
 ) -> Result<(Peer<B, M>, Result<(), AnswerError>), (SessionError, OwnOutbox<M>)>
@@ -62,11 +62,11 @@ fn let_in<B: BusBrand, M: Mailbox, W: Wait, R: Wait + Drop>(
     ensures outbox { IfErr result (λ refused. refused.1.outbox ≡ own.outbox) }
 {
     let mut control = context.bus.control(context.rt);
-    match join(&mut control, &mut pass, &own) {
+    match join(&mut control, &mut pass, &mut own) {
         Ok(()) => {
             let mut peer = Peer::new(context.alloc, pass, own, identity);
             peer.show_first(context, view);
-            let registered = peer.register(context, lists, Request::of(view));
+            let registered = peer.register(context, lists, &mut control, Request::of(view));
             Ok((peer, registered))
         }
         Err(why) => {

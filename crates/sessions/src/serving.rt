@@ -50,9 +50,9 @@ fn open_session<B: BusBrand, O: Write + Drop>(
     guid: [u8; 32],
     writer: O,
 ) -> Result<(Session<B, PlainMailbox>, Writing<O>), AllocError> {
-    let mailbox = PlainMailbox::new(alloc)?;
+    let (mailbox, turn) = PlainMailbox::new(alloc)?;
     let writing = Writing::new(mailbox.outbox(), writer)?;
-    Ok((Session::new(alloc, guid, mailbox), writing))
+    Ok((Session::new(alloc, guid, mailbox, turn), writing))
 }
 
 /// Reads to the end of the input, or to what ends the session before it.

@@ -16,6 +16,7 @@ use auth::Admission;
 use crossbeam_utils::rule::Protocol;
 use frames::Frames;
 use message_view::{MsgError, View};
+use outbox::Turn;
 use peers::{
     AllInstructions, Bus, BusBrand, Command, Context, Identity, Mailbox, Published, RouteLists,
     Shares, Shown, StateReader,
@@ -60,8 +61,9 @@ where
 
 impl<B: BusBrand, M: Mailbox> Session<B, M> {
     /// A session before its first byte, of a bus with this GUID. It admits EXTERNAL for anybody, and ANONYMOUS. All that
-    /// it says goes to the mailbox.
-    pub fn new(alloc: Global, guid: [u8; 32], mailbox: M) -> Session<B, M>
+    /// it says goes to the mailbox, whose outbox's turn it is.
+    pub fn new(alloc: Global, guid: [u8; 32], mailbox: M, turn: Turn) -> Session<B, M>
+        requires { (turn.queue ≡ (M.outbox_of mailbox).queue) × (turn.last ≡ 0) }
         ensures { result ≡ new_session (M.outbox_of mailbox) (record { guid = guid; admission = any_admission }) }
     {
         let identity = Identity {
@@ -69,7 +71,7 @@ impl<B: BusBrand, M: Mailbox> Session<B, M> {
             machine_id: None,
             user: None,
         };
-        Session::admitting(alloc, identity, Admission::any(), mailbox)
+        Session::admitting(alloc, identity, Admission::any(), mailbox, turn)
     }
 
     /// The same of a session that admits what is asked for, on a bus that says this of itself.
@@ -78,13 +80,15 @@ impl<B: BusBrand, M: Mailbox> Session<B, M> {
         identity: Identity,
         admission: Admission,
         mailbox: M,
+        turn: Turn,
     ) -> Session<B, M>
+        requires { (turn.queue ≡ (M.outbox_of mailbox).queue) × (turn.last ≡ 0) }
         ensures { result ≡ new_session (M.outbox_of mailbox) (record { guid = identity.guid; admission = admission }) }
     {
         Session {
             talk: Talk::admitting(identity.guid, admission),
             input: Frames::new(alloc),
-            client: Client::new(mailbox, identity),
+            client: Client::new(mailbox, turn, identity),
             fault: None,
         }
     }

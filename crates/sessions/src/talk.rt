@@ -86,7 +86,7 @@ fn put_answer<M: Mailbox, W: Wait>(
 }
 
 fn message_of(alloc: Global, answer: &[u8]) -> Result<Item, AllocError>
-    ensures { IfOk result (λ message. message.mark ≡ None) }
+    ensures { IfOk result (λ message. (message.mark ≡ None) × (message.place ≡ None)) }
 {
-    Item::new(alloc, Bytes::copy_from_slice(alloc, answer)?)
+    Item::new(alloc, Bytes::copy_from_slice(alloc, answer)?, None)
 }

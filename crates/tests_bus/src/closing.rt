@@ -48,12 +48,12 @@ fn route_and_close<B: BusBrand, R: Wait + Abort>(
     requires { opened ≡ B.book }
 {
     let bus = new_bus::<B, R>(rt, alloc, opened);
-    let stays = new_letterbox(rt, alloc);
-    let goes = new_letterbox(rt, alloc);
+    let (stays, stays_turn) = new_letterbox(rt, alloc);
+    let (goes, goes_turn) = new_letterbox(rt, alloc);
     let mut one = connect(rt, alloc, &bus);
-    let mut second_pass = connect_with(rt, &bus, &stays);
+    let mut second_pass = connect_with(rt, &bus, &stays, stays_turn);
     attach_to_all(rt, alloc, &bus, &mut second_pass);
-    let mut three = connect_with(rt, &bus, &goes);
+    let mut three = connect_with(rt, &bus, &goes, goes_turn);
     attach_to_all(rt, alloc, &bus, &mut three);
     close_between(rt, alloc, &bus, &mut one, three);
     expect_letters(rt, alloc, &stays, 1);

@@ -10,9 +10,9 @@ use std::process::Abort;
 use std::sync::Wait;
 
 fn unicast<R: Abort>(rt: &R, alloc: Global) -> Item
-    ensures { result.mark ≡ None }
+    ensures { (result.mark ≡ None) × (result.place ≡ None) }
 {
-    Item::new(alloc, new_bytes(b"signal")).expect(rt, "memory")
+    Item::new(alloc, new_bytes(b"signal"), None).expect(rt, "memory")
 }
 
 // Whether an outbox takes as many messages as it holds, and then shuts.
@@ -61,7 +61,7 @@ fn put_one<R: Wait + Abort>(
 {
     let mut seat = outbox.seat();
     let mut shares = releases
-        .begin(alloc, new_bytes(b"signal"), Some((7, 5)), 1)
+        .begin(alloc, new_bytes(b"signal"), Some((7, 5)), None, 1)
         .expect(rt, "memory");
     assert!(rt; outbox.put(rt, &mut seat, shares.next()).is_ok());
     expect_none(rt, taker);

@@ -8,6 +8,7 @@ use crate::outboxes::new_bytes;
 use bytes::Bytes;
 use entry_table::IndexKey;
 use message_view::View;
+use outbox::Turn;
 use owners::{Change, NameReply, Named, WellKnown};
 use program_table::Reply;
 use published::{BusBrand, Opened};
@@ -66,15 +67,18 @@ pub(crate) fn new_bus<B: BusBrand, R: Wait + Abort>(
     Bus::new(rt, alloc, KEY, opened).expect(rt, "a bus")
 }
 
-/// A pass with the next connection.
+/// A pass with the next connection, whose messages go to the letterbox, whose outbox's turn it is.
 pub(crate) fn connect_pass<B: BusBrand, R: Wait + Abort>(
     rt: &R,
     bus: &Bus<B, PlainMailbox, &R>,
     letterbox: PlainMailbox,
-) -> Pass<B, PlainMailbox> {
+    turn: Turn,
+) -> Pass<B, PlainMailbox>
+    requires { (turn.queue ≡ letterbox.outbox.queue) × (turn.last ≡ 0) }
+{
     let mut pass = bus.pass(rt).expect(rt, "a pass");
     let _ = bus
-        .connect(rt, &mut pass, letterbox)
+        .connect(rt, &mut pass, letterbox, turn)
         .expect(rt, "a connection");
     pass
 }

@@ -55,7 +55,8 @@ fn connect<B: BusBrand, R: Wait + Abort>(
     bus: &Bus<B, PlainMailbox, &R>,
 ) -> Pass<B, PlainMailbox> {
     let mut pass = bus.pass_without_reader(rt);
-    let connected = bus.connect(rt, &mut pass, new_letterbox(rt, alloc));
+    let (letterbox, turn) = new_letterbox(rt, alloc);
+    let connected = bus.connect(rt, &mut pass, letterbox, turn);
     assert!(rt; connected.is_ok());
     pass
 }

@@ -1,8 +1,11 @@
 //! Passes whose messages stand in outboxes, and what is put there.
 
+ghost use Rattle.std.specs.Prelude.{◌≡◌};
+
 use crate::fixture::{connect_pass, read_message, s1_bytes};
 use crate::outboxes::take_all;
 use bpf_code::Ins;
+use outbox::Turn;
 use program_table::Handle;
 use published::BusBrand;
 use router::{Bus, Pass, PlainMailbox, Sent, Source};
@@ -13,7 +16,10 @@ use std::process::Abort;
 use std::sync::Wait;
 use summary::Edition;
 
-pub(crate) fn new_letterbox<R: Abort>(rt: &R, alloc: Global) -> PlainMailbox {
+/// A letterbox, and the turn of its outbox.
+pub(crate) fn new_letterbox<R: Abort>(rt: &R, alloc: Global) -> (PlainMailbox, Turn)
+    ensures { (result.1.queue ≡ result.0.outbox.queue) × (result.1.last ≡ 0) }
+{
     PlainMailbox::new(alloc).expect(rt, "a letterbox")
 }
 
@@ -23,17 +29,21 @@ pub(crate) fn connect<B: BusBrand, R: Wait + Abort>(
     alloc: Global,
     bus: &Bus<B, PlainMailbox, &R>,
 ) -> Pass<B, PlainMailbox> {
-    connect_pass(rt, bus, new_letterbox(rt, alloc))
+    let (letterbox, turn) = new_letterbox(rt, alloc);
+    connect_pass(rt, bus, letterbox, turn)
 }
 
-/// A pass with the next connection, whose messages go to the letterbox.
+/// A pass with the next connection, whose messages go to the letterbox, whose outbox's turn it is.
 pub(crate) fn connect_with<B: BusBrand, R: Wait + Abort>(
     rt: &R,
     bus: &Bus<B, PlainMailbox, &R>,
     letterbox: &PlainMailbox,
-) -> Pass<B, PlainMailbox> {
+    turn: Turn,
+) -> Pass<B, PlainMailbox>
+    requires { (turn.queue ≡ letterbox.now.outbox.queue) × (turn.last ≡ 0) }
+{
     let mailbox = letterbox.share().expect(rt, "a share");
-    connect_pass(rt, bus, mailbox)
+    connect_pass(rt, bus, mailbox, turn)
 }
 
 // `ret #1`

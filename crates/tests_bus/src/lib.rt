@@ -23,6 +23,8 @@ mod gates;
 #[cfg(test)]
 mod hashes;
 #[cfg(test)]
+mod held;
+#[cfg(test)]
 mod lending;
 #[cfg(test)]
 mod letters;
@@ -40,6 +42,8 @@ mod origins;
 mod outboxes;
 #[cfg(test)]
 mod owners_calls;
+#[cfg(test)]
+mod places;
 #[cfg(test)]
 mod recipients;
 #[cfg(test)]

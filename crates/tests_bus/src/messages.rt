@@ -28,8 +28,8 @@ fn route_to_itself<B: BusBrand, R: Wait + Abort>(
     requires { opened ≡ B.book }
 {
     let bus = new_bus::<B, R>(rt, alloc, opened);
-    let mailbox = new_letterbox(rt, alloc);
-    let mut pass = connect_with(rt, &bus, &mailbox);
+    let (mailbox, turn) = new_letterbox(rt, alloc);
+    let mut pass = connect_with(rt, &bus, &mailbox, turn);
     expect_reach(rt, &mut pass, false);
     route_s1(rt, alloc, &bus, &mut pass, &[]);
     expect_letters(rt, alloc, &mailbox, 0);
@@ -62,9 +62,9 @@ fn own_and_send<B: BusBrand, R: Wait + Abort>(rt: &R, alloc: Global, opened: Ope
     requires { opened ≡ B.book }
 {
     let bus = new_bus::<B, R>(rt, alloc, opened);
-    let mailbox = new_letterbox(rt, alloc);
+    let (mailbox, turn) = new_letterbox(rt, alloc);
     let mut one = connect(rt, alloc, &bus);
-    let mut second_pass = connect_with(rt, &bus, &mailbox);
+    let mut second_pass = connect_with(rt, &bus, &mailbox, turn);
     send_s1(rt, alloc, &bus, &mut one, "com.example.A", Sent::NoOwner);
     let name = name_a(rt);
     own(rt, &bus, &mut second_pass, &name, 0, None, 2);
@@ -108,10 +108,10 @@ fn send_one_too_many<B: BusBrand, R: Wait + Abort>(
     requires { opened ≡ B.book }
 {
     let bus = new_bus::<B, R>(rt, alloc, opened);
-    let full = new_letterbox(rt, alloc);
-    let other = new_letterbox(rt, alloc);
-    let mut one = connect_with(rt, &bus, &full);
-    let mut second_pass = connect_with(rt, &bus, &other);
+    let (full, full_turn) = new_letterbox(rt, alloc);
+    let (other, other_turn) = new_letterbox(rt, alloc);
+    let mut one = connect_with(rt, &bus, &full, full_turn);
+    let mut second_pass = connect_with(rt, &bus, &other, other_turn);
     attach_to_all(rt, alloc, &bus, &mut one);
     attach_to_all(rt, alloc, &bus, &mut second_pass);
     fill_first(rt, alloc, &bus, &mut second_pass);

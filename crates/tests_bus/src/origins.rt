@@ -30,10 +30,10 @@ fn send_and_take<B: BusBrand + Send + Sync, R: Wait + Threads + Sync + Abort>(
     requires { opened ≡ B.book }
 {
     let bus = new_bus::<B, R>(rt, alloc, opened);
-    let mailbox = new_letterbox(rt, alloc);
+    let (mailbox, turn) = new_letterbox(rt, alloc);
     let mut one = connect(rt, alloc, &bus);
     let mut second_pass = connect(rt, alloc, &bus);
-    let mut three = connect_with(rt, &bus, &mailbox);
+    let mut three = connect_with(rt, &bus, &mailbox, turn);
     attach_to_all(rt, alloc, &bus, &mut three);
     send_at_once(rt, alloc, &bus, &mut one, &mut second_pass);
     expect_both_in_order(rt, alloc, mailbox.outbox(), BROADCASTS);

@@ -12,9 +12,9 @@ use std::sync::Wait;
 
 /// A message of six bytes.
 fn signal<R: Abort>(rt: &R, alloc: Global) -> Item
-    ensures { result.mark ≡ None }
+    ensures { (result.mark ≡ None) × (result.place ≡ None) }
 {
-    Item::new(alloc, Bytes::from_static(b"signal")).expect(rt, "memory")
+    Item::new(alloc, Bytes::from_static(b"signal"), None).expect(rt, "memory")
 }
 
 fn outbox_of<R: Abort>(rt: &R, alloc: Global, messages: usize, bytes: usize) -> Outbox {

@@ -1,13 +1,10 @@
 // Senders: what no contract says, that a put is made and with which bytes, and calls from several threads.
 
-use crate::outboxes::{
-    expect_both_in_order, expect_next, expect_none, expect_shut, new_bytes, new_outbox, new_taker,
-    take_all,
-};
+use crate::outboxes::{expect_both_in_order, new_bytes, new_outbox, take_all};
 use arrayvec::ArrayVec;
 use outbox::{Delivery, Outbox, Taker};
 use program_table::Handle;
-use routing::{Gate, Mailbox, OpenGate, Recipient, Sender, Sent};
+use routing::{Gate, Mailbox, OpenGate, Recipient, Sender, Sent, Turns};
 use std::alloc::{AllocError, Global};
 use std::cell::Cell;
 use std::marker::Model;
@@ -19,9 +16,9 @@ use std::thread::{Threads, join};
 
 const BROADCASTS: u64 = 100;
 
-// A mailbox that nothing writes out.
+/// A mailbox that nothing writes out.
 #[derive(Drop)]
-struct Line {
+pub(crate) struct Line {
     outbox: Outbox,
     pushed: Rc<Cell<u32>>,
 }
@@ -75,8 +72,8 @@ fn take_seat<R: Abort>(rt: &R, sender: &mut Sender<Line>, recipient: u64, line: 
         .expect(rt, "memory");
 }
 
-// A sender with a seat at the outbox, which is the recipient 3's.
-fn sender_to<R: Abort>(rt: &R, alloc: Global, outbox: &Outbox) -> Sender<Line> {
+/// A sender with a seat at the outbox, which is the recipient 3's.
+pub(crate) fn sender_to<R: Abort>(rt: &R, alloc: Global, outbox: &Outbox) -> Sender<Line> {
     let mut sender = Sender::new(alloc, 1);
     take_seat(rt, &mut sender, 3, line_to(rt, alloc, outbox));
     sender
@@ -88,8 +85,18 @@ fn send_one<R: Wait>(rt: &R, alloc: Global, sender: &mut Sender<Line>) -> bool {
     if !sender.has(3) {
         return false;
     }
+    let mut turns = Turns::new(alloc);
     let mut refused = ArrayVec::new();
-    match sender.broadcast(rt, alloc, &[3], &bytes, &OpenGate, &mut refused) {
+    match sender.broadcast(
+        rt,
+        alloc,
+        &[3],
+        &bytes,
+        None,
+        &mut turns,
+        &OpenGate,
+        &mut refused,
+    ) {
         Ok(()) => refused.len() == 0,
         Err(_) => false,
     }
@@ -140,9 +147,19 @@ fn refuse_one<R: Wait + Abort>(rt: &R, alloc: Global, sender: &mut Sender<Line>)
     let bytes = new_bytes(b"one more");
     assert!(rt; sender.has(3));
     assert!(rt; sender.has(5));
+    let mut turns = Turns::new(alloc);
     let mut refused = ArrayVec::new();
     sender
-        .broadcast(rt, alloc, &[3, 5], &bytes, &OpenGate, &mut refused)
+        .broadcast(
+            rt,
+            alloc,
+            &[3, 5],
+            &bytes,
+            None,
+            &mut turns,
+            &OpenGate,
+            &mut refused,
+        )
         .expect(rt, "a count");
     assert_eq!(rt; refused.as_slice(), [3].as_slice());
 }
@@ -166,7 +183,8 @@ fn expect_item<R: Abort>(rt: &R, item: &Delivery, bytes: &[u8], mark: Option<(u6
     assert_eq!(rt; item.mark(), mark);
 }
 
-fn expect_sent<R: Wait + Abort>(
+/// Routes broadcasts to the recipient 3, of which so many are put.
+pub(crate) fn expect_sent<R: Wait + Abort>(
     rt: &R,
     alloc: Global,
     sender: &mut Sender<Line>,
@@ -194,10 +212,19 @@ fn full_outbox(rt: HostRuntime) {
     forget(other);
 }
 
-fn reply<R: Wait + Abort>(rt: &R, alloc: Global, sender: &mut Sender<Line>, wanted: Sent) {
+/// Sends the recipient 3 a message that is no broadcast.
+pub(crate) fn reply<R: Wait + Abort>(
+    rt: &R,
+    alloc: Global,
+    sender: &mut Sender<Line>,
+    wanted: Sent,
+) {
     let bytes = new_bytes(b"reply");
     assert!(rt; sender.has(3));
-    let sent = sender.unicast(rt, alloc, 3, &bytes).expect(rt, "memory");
+    let mut turns = Turns::new(alloc);
+    let sent = sender
+        .unicast(rt, alloc, 3, &bytes, None, &mut turns)
+        .expect(rt, "memory");
     assert_eq!(rt; sent, wanted);
 }
 
@@ -270,9 +297,19 @@ impl Gate for Calls {
 fn route_at_gate<R: Wait + Abort>(rt: &R, alloc: Global, sender: &mut Sender<Line>, calls: &Calls) {
     let bytes = new_bytes(b"signal");
     assert!(rt; sender.has(3));
+    let mut turns = Turns::new(alloc);
     let mut refused = ArrayVec::new();
     sender
-        .broadcast(rt, alloc, &[3], &bytes, calls, &mut refused)
+        .broadcast(
+            rt,
+            alloc,
+            &[3],
+            &bytes,
+            None,
+            &mut turns,
+            calls,
+            &mut refused,
+        )
         .expect(rt, "a count");
     assert!(rt; refused.is_empty());
 }
@@ -322,9 +359,19 @@ fn route_and_look<R: Wait + Abort>(
     let bytes = new_bytes(b"signal");
     assert!(rt; sender.has(3));
     assert!(rt; sender.has(5));
+    let mut turns = Turns::new(alloc);
     let mut refused = ArrayVec::new();
     sender
-        .broadcast(rt, alloc, &[3, 5], &bytes, &looks, &mut refused)
+        .broadcast(
+            rt,
+            alloc,
+            &[3, 5],
+            &bytes,
+            None,
+            &mut turns,
+            &looks,
+            &mut refused,
+        )
         .expect(rt, "a count");
     assert!(rt; !looks.has_given.get());
 }
@@ -342,62 +389,4 @@ fn held_until_the_last_put(rt: HostRuntime) {
     forget(sender);
     forget(first);
     forget(last);
-}
-
-// What is held is given out together, in the order in which it was put.
-#[test]
-fn released_together(rt: HostRuntime) {
-    let alloc = rt.alloc();
-    let outbox = new_outbox(&rt, alloc);
-    let mut taker = new_taker(&rt, &outbox);
-    let mut sender = sender_to(&rt, alloc, &outbox);
-    sender.hold();
-    reply(&rt, alloc, &mut sender, Sent::Put);
-    expect_sent(&rt, alloc, &mut sender, 1, 1);
-    expect_none(&rt, &mut taker);
-    sender.release();
-    expect_next(&rt, &mut taker, None);
-    expect_next(&rt, &mut taker, Some((1, 1)));
-    forget(sender);
-    forget(taker);
-    forget(outbox);
-}
-
-// What is withdrawn is never given out, nor what stands after it: the outbox is shut.
-#[test]
-fn withdrawn_is_never_given_out(rt: HostRuntime) {
-    let alloc = rt.alloc();
-    let outbox = new_outbox(&rt, alloc);
-    let mut taker = new_taker(&rt, &outbox);
-    let mut sender = sender_to(&rt, alloc, &outbox);
-    sender.hold();
-    reply(&rt, alloc, &mut sender, Sent::Put);
-    sender.withdraw();
-    sender.push_out(&rt);
-    expect_none(&rt, &mut taker);
-    expect_shut(&rt, &mut taker);
-    forget(sender);
-    forget(taker);
-    forget(outbox);
-}
-
-// A message that another sender puts after a held one waits for it, and writing out releases what is held.
-#[test]
-fn waits_behind_a_held_message(rt: HostRuntime) {
-    let alloc = rt.alloc();
-    let outbox = new_outbox(&rt, alloc);
-    let mut taker = new_taker(&rt, &outbox);
-    let mut sender = sender_to(&rt, alloc, &outbox);
-    let mut other = sender_to(&rt, alloc, &outbox);
-    sender.hold();
-    expect_sent(&rt, alloc, &mut sender, 1, 1);
-    reply(&rt, alloc, &mut other, Sent::Put);
-    expect_none(&rt, &mut taker);
-    sender.push_out(&rt);
-    expect_next(&rt, &mut taker, Some((1, 1)));
-    expect_next(&rt, &mut taker, None);
-    forget(sender);
-    forget(other);
-    forget(taker);
-    forget(outbox);
 }

@@ -36,7 +36,8 @@ fn hold_session<B: BusBrand, R: Wait + Abort>(
     number: u64,
 ) {
     let mut pass = bus.pass(rt).expect(rt, "a pass");
-    let connected = bus.connect(rt, &mut pass, new_letterbox(rt, alloc));
+    let (letterbox, turn) = new_letterbox(rt, alloc);
+    let connected = bus.connect(rt, &mut pass, letterbox, turn);
     expect_reply(rt, connected, Reply::Connected(number));
     expect_reply(rt, bus.close(rt, &mut pass), Reply::Done);
     assert!(rt; pass.is_closed());
@@ -56,7 +57,8 @@ fn connect_all<B: BusBrand, R: Wait + Abort>(rt: &R, alloc: Global, opened: Open
         forget(connect(rt, alloc, &bus));
     }
     let mut pass = bus.pass(rt).expect(rt, "a pass");
-    let last = bus.connect(rt, &mut pass, new_letterbox(rt, alloc));
+    let (letterbox, turn) = new_letterbox(rt, alloc);
+    let last = bus.connect(rt, &mut pass, letterbox, turn);
     expect_error(rt, last, BusError::ConnectionsFull);
     forget(pass);
     forget(bus);
@@ -80,7 +82,8 @@ fn connect_two<B: BusBrand, R: Wait + Abort>(rt: &R, alloc: Global, opened: Open
     );
     forget(connect(rt, alloc, &bus));
     let mut second = bus.pass(rt).expect(rt, "a pass");
-    let last = bus.connect(rt, &mut second, new_letterbox(rt, alloc));
+    let (letterbox, turn) = new_letterbox(rt, alloc);
+    let last = bus.connect(rt, &mut second, letterbox, turn);
     expect_error(rt, last, BusError::ConnectionsFull);
     forget(second);
     forget(bus);

@@ -32,7 +32,7 @@ fn told_and_entered<B: BusBrand, R: Wait + Abort>(
     let second = publisher.history_reader().expect(rt, "the second reader");
     assert!(rt; publisher.history_reader().is_none());
     refuse(rt, &mut publisher);
-    publish_two(rt, new_letterbox(rt, alloc), &mut publisher);
+    publish_two(rt, new_letterbox(rt, alloc).0, &mut publisher);
     enter(rt, first);
     learn(rt, &publisher, second);
     forget(publisher);

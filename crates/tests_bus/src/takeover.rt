@@ -30,9 +30,9 @@ fn take_over<B: BusBrand, R: Wait + Threads + Abort>(
     requires { opened ≡ B.book }
 {
     let bus = new_bus::<B, R>(rt, alloc, opened);
-    let mailbox = new_letterbox(rt, alloc);
+    let (mailbox, turn) = new_letterbox(rt, alloc);
     let mut one = connect(rt, alloc, &bus);
-    let mut second_pass = connect_with(rt, &bus, &mailbox);
+    let mut second_pass = connect_with(rt, &bus, &mailbox, turn);
     let mut three = connect(rt, alloc, &bus);
     add_rule(rt, alloc, &bus, &mut three, "sender='com.example.A'", 1);
     let name = name_a(rt);

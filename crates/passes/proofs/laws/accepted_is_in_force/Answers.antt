@@ -14,5 +14,5 @@ returns-clause-asked g c v w u x before next later after command other reply ans
     later_too (before.history ++ command ∷ []) w.seen u.seen later.history (sym (done.seen ∙ done.published)) learned asks.begins
 
 pub returns-clause-routed : goal.returns-clause-routed
-returns-clause-routed g c v w u x before next command reply source bytes recipients refused done learned routes =
+returns-clause-routed g c v w u x before next command reply standing source bytes recipients refused done learned routes =
     later_too (before.history ++ command ∷ []) w.seen u.seen x.seen (sym (done.seen ∙ done.published)) learned routes.sends.begins

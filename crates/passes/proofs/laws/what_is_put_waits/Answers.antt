@@ -16,7 +16,7 @@ listed true refuses put = refl
 listed false refuses put = put
 
 pub returns-clause-broadcast : goal.returns-clause-broadcast
-returns-clause-broadcast g c v w source bytes recipients refused n routed there none =
+returns-clause-broadcast g c v w standing source bytes recipients refused n routed there none =
     let waits = λ (put : is_put n recipients refused ≡ true). routed.waits n (listed (is_in n recipients) (is_in n refused) put) in
     nothing (is_put n recipients refused) (waits_at n w.recipient_seats) (puts_at n v.recipient_seats) (puts_at n w.recipient_seats) routed.put.item waits none (routed.put.puts n there)
 
@@ -25,8 +25,8 @@ its : (m n : ℕ) (recipient_seats : List RecipientSeatView) → waits_at m reci
 its m n recipient_seats waits is = let P : ℕ → Type 0 = λ x. waits_at x recipient_seats ≡ true in subst P (eqb-true m n is) waits
 
 pub returns-clause-unicast : goal.returns-clause-unicast
-returns-clause-unicast g c v w to bytes (Put m) n sent there none =
+returns-clause-unicast g c v w standing to bytes (Put m) n sent there none =
     let put = sent.3 in
     nothing (m == n) (waits_at n w.recipient_seats) (puts_at n v.recipient_seats) (puts_at n w.recipient_seats) put.item (its m n w.recipient_seats sent.4) none (put.puts n there)
-returns-clause-unicast g c v w to bytes (Full m) n sent there none = sent.0.puts n there
-returns-clause-unicast g c v w to bytes NoOwner n sent there none = sent.0.puts n there
+returns-clause-unicast g c v w standing to bytes (Full m) n sent there none = sent.0.puts n there
+returns-clause-unicast g c v w standing to bytes NoOwner n sent there none = sent.0.puts n there

@@ -11,7 +11,7 @@ returns-then-is_some-clause-has g c =
     let has : List RecipientSeatView → Type 0 = λ l. HasSeat c.number.result l in
     let there : ℕ → Type 0 = λ n. HasSeat n c.args.recipient_seats.now.items in
     subst there c.number.ensures
-    (subst has c.as_slice.ensures.value (has_place c.number.result c.as_slice.result.now c.place_of.result c.place_of.ensures (sym c.is_some.ensures ∙ c.if-is_some.true)))
+    (subst has c.as_slice.ensures.value (has_place (λ (s : RecipientSeatView). s.recipient) c.number.result c.as_slice.result.now c.place_of.result c.place_of.ensures (sym c.is_some.ensures ∙ c.if-is_some.true)))
 
 pub returns-clause-taken : goal.returns-clause-taken
 returns-clause-taken g c =

@@ -1,7 +1,7 @@
 use Rattle.std.proofs.Common.{ℕ, ◌≡◌, [], ◌∷◌, ◌++◌, sym, ap, ◌∙◌}
 use Rattle.outbox.specs.Items.{Item}
 use Rattle.outbox.specs.Taken.{Taking, deliveries}
-use Rattle.outbox.proofs.Deliveries.{all_but_held, in_order_but_held}
+use Rattle.outbox.proofs.Deliveries.{all_but_held, in_order_but_held, places_but_held}
 use Rattle.outbox.proofs.taker.Taker.take.Given.{Over}
 use Rattle.outbox.proofs.taker.Taker.take.Goals as goal
 
@@ -17,3 +17,6 @@ returns-in-Err-clause-deliveries g c = all_but_held (deliveries c.args.self.now)
 
 pub returns-in-Err-clause-order : goal.returns-in-Err-clause-order
 returns-in-Err-clause-order g c = in_order_but_held (deliveries c.args.self.now) c.self.inside.seat.view.taken c.in-Err.item (held_now g c) c.self.invariant.2
+
+pub returns-in-Err-clause-places : goal.returns-in-Err-clause-places
+returns-in-Err-clause-places g c = places_but_held (deliveries c.args.self.now) c.self.inside.seat.view.taken c.in-Err.item (held_now g c) c.self.invariant.3

@@ -5,6 +5,7 @@ use Rattle.published.specs.Publication.{Publication, with_next}
 use Rattle.passes.specs.Passes.{PassState}
 use Rattle.passes.proofs.Commands.{IsGained, turned_down, gained, goes_on, room, one_more, finished}
 use Rattle.passes.proofs.Admitted.{told_self, counted_self, counted_at}
+use Rattle.passes.proofs.Theirs.{never_connects, turns_next}
 use Rattle.passes.proofs.control.Control.publish.Goals as goal
 
 pub returns-in-Refused : goal.returns-in-Refused
@@ -47,3 +48,11 @@ returns g c =
       ap (λ (p : PassState g.row.M.Denot). p.connection) c.count_in.ensures ∙ c.connection-connection.ensures,
       ap (λ (p : PassState g.row.M.Denot). p.is_closed) c.count_in.ensures ∙ c.requires.ready.admitted.open_still,
     )
+
+pub invariant_of-self-in-Refused : goal.invariant_of-self-in-Refused
+invariant_of-self-in-Refused g c =
+    turns_next g.M.Mailbox.outbox_of c.self.inside.publisher.value.history c.publish.new.self.history c.args.command c.self.inside.turns.turns c.in-Ok.ensures.history (never_connects c.args.pass.now.connection c.args.command c.requires.own) c.self.invariant
+
+pub invariant_of-self-2 : goal.invariant_of-self-2
+invariant_of-self-2 g c =
+    turns_next g.M.Mailbox.outbox_of c.self.inside.publisher.value.history c.publish.new.self.history c.args.command c.self.inside.turns.turns c.in-Ok.ensures.history (never_connects c.args.pass.now.connection c.args.command c.requires.own) c.self.invariant

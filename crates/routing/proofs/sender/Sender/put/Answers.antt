@@ -13,6 +13,6 @@ invariant_of-self g c =
     let put : List RecipientSeatView → Type 0 = λ l. PutAt c.args.recipient c.args.item c.put_at.result l c.put_at.new.recipient_seats in
     let fit : List RecipientSeatView → Type 0 = λ l. AllFit origin count l in (
       subst fit (sym (with_items_is c.self.inside.recipient_seats c.put_at.new.recipient_seats (search (rules, places))))
-          (sent_fit c.args.recipient c.args.item c.put_at.result origin count c.self.inside.recipient_seats.items c.put_at.new.recipient_seats c.requires.unmarked c.self.invariant.0 (subst put c.as_mut_slice.ensures.value c.put_at.ensures)),
+          (sent_fit c.args.recipient c.args.item c.put_at.result origin count c.self.inside.recipient_seats.items c.put_at.new.recipient_seats c.requires.unmarked c.self.invariant.0 (subst put c.as_mut_slice.ensures.value c.put_at.ensures.put)),
       c.self.invariant.1,
     )
