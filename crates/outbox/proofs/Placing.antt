@@ -65,6 +65,7 @@ place_begins = record { holder = 0; climbs = tt; knows = λ q last e. absurd (tu
     turns : (q : ℕ) → (seat_known (blank ∷ []) q).turn ≡ None
     turns zero = refl
     turns (suc q) = refl
+
     turns_none : (q last : ℕ) → (seat_known (blank ∷ []) q).turn ≡ Some last → ⊥
     turns_none zero last e = cc
     turns_none (suc q) last e = cc
@@ -116,7 +117,7 @@ place_some all views p v x last place at has is rises h =
     let same = places_placed all x place is in
     let Q : ℕ → SeatView → Type 0 = λ q u. KnowsLast h.holder (all ++ x ∷ []) q u in
     let mine : KnowsLast h.holder (all ++ x ∷ []) p w = λ n e.
-        let now : n ≡ place = ap last_in (sym e ∙ ap (turn_after v.turn) is) in (turn.0, now ∙ sym (place_last 0 (places_of all) place) ∙ ap (last_of 0) (sym same)) in
+    let now : n ≡ place = ap last_in (sym e ∙ ap (turn_after v.turn) is) in (turn.0, now ∙ sym (place_last 0 (places_of all) place) ∙ ap (last_of 0) (sym same)) in
     let C : List ℕ → Type 0 = λ l. Climbs 0 l in
     let L : ℕ → Type 0 = λ n. n ≤ place in
     record {

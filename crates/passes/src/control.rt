@@ -15,12 +15,12 @@ use crossbeam_utils::rule::Protocol;
 use entry_table::IndexKey;
 use left_right::Absorb;
 use logbook::Rule;
+use outbox::Turn;
 use program_table::{BusState, Capacity, Command, Reply};
 use published::{
     BusBrand, Entry, HistoryPrefix, Law, Opened, PublishError, Published, Publisher, Shown,
     StateReader,
 };
-use outbox::Turn;
 use routing::{Mailbox, Turns};
 use std::alloc::{AllocError, Global};
 use std::collections::LinkedList;

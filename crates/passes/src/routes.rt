@@ -48,7 +48,16 @@ pub(crate) fn route<M: Mailbox, W: Wait, G: Gate>(
         Ok(()) => {}
         Err(_) => return Err(BusError::NoMemory),
     }
-    match sender.broadcast(rt, alloc, recipients.as_slice(), bytes, place, turns, gate, refused) {
+    match sender.broadcast(
+        rt,
+        alloc,
+        recipients.as_slice(),
+        bytes,
+        place,
+        turns,
+        gate,
+        refused,
+    ) {
         Ok(()) => Ok(()),
         Err(RouteError::NoMemory) => Err(BusError::NoMemory),
         Err(RouteError::Counts) => Err(BusError::Counts),

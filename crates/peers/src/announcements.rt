@@ -43,8 +43,7 @@ impl<B: BusBrand, M: Mailbox> Peer<B, M> {
         let at = Standing::Next;
         let name = change.name.as_str();
         let lost = self.tell_old_owner(context, control, at, change.old, name);
-        let changed =
-            self.tell_changed(context, lists, control, at, name, change.old, change.new);
+        let changed = self.tell_changed(context, lists, control, at, name, change.old, change.new);
         let acquired = self.tell_new_owner(context, control, at, change.new, name);
         lost.and(changed).and(acquired)
     }
@@ -67,8 +66,15 @@ impl<B: BusBrand, M: Mailbox> Peer<B, M> {
         let at = Standing::Last;
         let number = self.pass.connection();
         let name = UniqueName::new(number);
-        let changed =
-            self.tell_changed(context, lists, control, at, name.as_str(), None, Some(number));
+        let changed = self.tell_changed(
+            context,
+            lists,
+            control,
+            at,
+            name.as_str(),
+            None,
+            Some(number),
+        );
         let acquired = self.tell_new_owner(context, control, at, Some(number), name.as_str());
         changed.and(acquired)
     }
@@ -90,7 +96,15 @@ impl<B: BusBrand, M: Mailbox> Peer<B, M> {
         let at = Standing::Last;
         let number = self.pass.connection();
         let name = UniqueName::new(number);
-        self.tell_changed(context, lists, control, at, name.as_str(), Some(number), None)
+        self.tell_changed(
+            context,
+            lists,
+            control,
+            at,
+            name.as_str(),
+            Some(number),
+            None,
+        )
     }
 
     fn tell_old_owner<W: Wait, R: Wait + Drop>(

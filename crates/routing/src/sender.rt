@@ -10,10 +10,10 @@ use crate::events::{begin, end};
 use crate::gate::Gate;
 use crate::mailbox::Mailbox;
 use crate::recipient::Recipient;
-use crate::turns::Turns;
 use crate::recipient_seats::{
     RecipientSeat, place_of, push_out_all, put_all, put_at, retain, shut_waiting, take_seat,
 };
+use crate::turns::Turns;
 use arrayvec::ArrayVec;
 use bytes::Bytes;
 use outbox::{Item, Releases};
@@ -145,7 +145,14 @@ impl<C: Mailbox> Sender<C> {
     {
         let mark = Some((self.origin, self.count + 1));
         let bytes = bytes.clone()?;
-        let mut shares = begin(&mut self.releases, alloc, bytes, mark, place, recipients.len())?;
+        let mut shares = begin(
+            &mut self.releases,
+            alloc,
+            bytes,
+            mark,
+            place,
+            recipients.len(),
+        )?;
         gate.before(0);
         put_all(
             rt,
@@ -198,7 +205,13 @@ impl<C: Mailbox> Sender<C> {
         ensures put { PutOnce recipient item result self.old self.new }
         ensures turns { KeepsTurns turns.old turns.new }
     {
-        put_at(rt, self.recipient_seats.as_mut_slice(), turns, recipient, item)
+        put_at(
+            rt,
+            self.recipient_seats.as_mut_slice(),
+            turns,
+            recipient,
+            item,
+        )
     }
 
     /// A message that isn't a broadcast, for a put at one outbox. It is held with what is put while the sender holds.

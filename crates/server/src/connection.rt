@@ -87,8 +87,13 @@ impl<B: BusBrand> Connection<B> {
         handle.register(&link, token)?;
         let instructions = Arc::try_clone(&server.instructions)?;
         let room = server.limits.room;
-        let (mailbox, turn) =
-            SocketMailbox::new(alloc, Arc::try_clone(&link)?, handle, token, room)?;
+        let (mailbox, turn) = SocketMailbox::new(
+            alloc,
+            Arc::try_clone(&link)?,
+            handle,
+            token,
+            room,
+        )?;
         let shared = mailbox.share()?;
         let ticket = server.newcomers.enter(rt, Arc::try_clone(&link)?)?;
         let mut session = Session::admitting(alloc, server.identity, admission, shared, turn);
