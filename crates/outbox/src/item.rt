@@ -21,7 +21,7 @@ struct Letter {
 
 /// A share of a message, which is one pointer. A broadcast has a mark: its origin, which is the connection that sent it,
 /// and its count among the origin's broadcasts, from 1 on. A unicast message has none. A message that tells of names bears a
-/// place: the number of the command of the bus's history at which it stands.
+/// place in the history of the bus: none is given out after what bears a later one.
 #[derive(Drop)]
 pub struct Item {
     letter: Arc<Letter, Global>,

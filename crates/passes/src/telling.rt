@@ -40,7 +40,7 @@ impl<B: BusBrand, M: Mailbox, R: Wait + Drop> Control<B, M, R> {
     /// # Errors
     ///
     /// Nothing was put then. `Closed` if the pass was never connected, or was closed and the message isn't the bus's, or if
-    /// something was put that stands later, as where the bus has ended; `NoMemory`; `Counts` if the pass's last count was used.
+    /// something was put that stands later, as once the bus has ended; `NoMemory`; `Counts` if the pass's last count was used.
     pub fn broadcast<W: Wait>(
         &mut self,
         rt: &W,
@@ -97,7 +97,7 @@ impl<B: BusBrand, M: Mailbox, R: Wait + Drop> Control<B, M, R> {
     /// # Errors
     ///
     /// Nothing was put then. `Closed` if the pass was never connected, or was closed and the message isn't the bus's, or if
-    /// something was put that stands later, as where the bus has ended; `NoMemory`.
+    /// something was put that stands later, as once the bus has ended; `NoMemory`.
     pub fn send_to<W: Wait>(
         &mut self,
         rt: &W,
