@@ -18,11 +18,6 @@ abbrev pub max_workers : ℕ
 max_workers = 16
 
 module _ {M : Type 0} where
-  -- an answer that takes memory
-  abbrev pub Tells : {A : Type 0} → List (Command M) → (State M → A → Type 0) → Result A BusError → List (Command M) → Type 0
-  Tells seen P (Ok found) later = IsPrefix seen later × P (after later) found
-  Tells seen P (Err error) later = ((error ≡ errors.Closed) × (later ≡ seen)) ⊎ ((error ≡ errors.NoMemory) × IsPrefix seen later)
-
   -- these are the recipients of the message of these bytes
   abbrev pub AreRecipientsOf : State M → Option ℕ → List ℕ → List ℕ → Type 0
   AreRecipientsOf s sender bytes found = (m : Message) → Valid bytes m → AreRecipients s sender m found

@@ -1,16 +1,12 @@
 // What the published state has of each connection, as it is told to whoever looks into the bus. It takes memory.
 
-ghost use Rattle.std.specs.Prelude.{◌≡◌, ℕ, false, IfOk, MatchOption, length};
+ghost use Rattle.std.specs.Prelude.{◌≡◌, false, IfOk, length};
 ghost use Rattle.entry_table.specs.Entries.{is_attached};
 ghost use Rattle.program_table.specs.History.{after};
 ghost use Rattle.passes.specs.Census.{AreRulesOf, IsPushed};
-ghost use Rattle.passes.specs.NameOwners.{IsOwner};
-ghost use Rattle.passes.specs.Names.{AreNames};
 
 use crate::control::Control;
-use crate::names::{names_in, owner_in};
 use entry_table::{Entry, Filter, RuleProgram};
-use owners::WellKnown;
 use program_table::{BusState, Connection};
 use published::BusBrand;
 use routing::Mailbox;
@@ -58,20 +54,6 @@ impl<B: BusBrand, M: Mailbox, R: Wait + Drop> Control<B, M, R> {
         ensures { result ≡ length (after self.now.history).registrations.entries }
     {
         self.state().entry_count()
-    }
-
-    /// The connection that owns a name, which is unique or well-known.
-    pub fn owner_of(&self, name: &str) -> Option<u64>
-        ensures { MatchOption result ((n : ℕ) → IsOwner (after self.now.history) name.now n → ⊥) (λ n. IsOwner (after self.now.history) name.now n) }
-    {
-        owner_in(self.state(), name)
-    }
-
-    /// The owned well-known names in the order of bytes.
-    pub fn names(&self, alloc: Global) -> Result<Vec<WellKnown>, AllocError>
-        ensures { IfOk result (λ names. AreNames (after self.now.history).registrations.claims names.items) }
-    {
-        names_in(self.state(), alloc)
     }
 
     /// The rules of a connection, the oldest first.

@@ -4,6 +4,7 @@
 //! are those that were accepted of it, each once and in order.
 #![tactic(auto)]
 
+mod asking;
 mod by_workers;
 mod calls;
 mod census;
@@ -12,7 +13,6 @@ mod error;
 mod holding;
 mod kept;
 mod laws;
-mod listing;
 mod name_call;
 mod names;
 mod pass;

@@ -1,25 +1,23 @@
 // What a pass reads in the published state, without the lock of the bus.
 
-ghost use Rattle.std.specs.Prelude.{◌≡◌, Some, [], MatchResult};
+ghost use Rattle.std.specs.Prelude.{◌≡◌, ℕ, Some, [], MatchOption, MatchResult};
 ghost use mathlib.Core.List.{IsPrefix};
 ghost use Rattle.message_view.specs.Message.{Message};
 ghost use Rattle.message_view.specs.Valid.{Valid};
 ghost use Rattle.match_rule.specs.FixedTexts.{texts_from};
-ghost use Rattle.owners.specs.Queues.{owner_of};
-ghost use Rattle.program_table.specs.Connections.{is_connected};
 ghost use Rattle.program_table.specs.History.{after};
 ghost use Rattle.program_table.specs.Recipients.{AreRecipients};
 ghost use Rattle.fan_out.specs.Reach.{TellsReach};
+ghost use Rattle.passes.specs.NameOwners.{IsOwner};
 ghost use Rattle.passes.specs.Passes.{PassState, sender_of};
 
 use crate::error::BusError;
-use crate::names::is_there;
+use crate::names::owner_in;
 use crate::pass::Pass;
 use crate::route_lists::RouteLists;
 use arrayvec::ArrayVec;
 use fan_out::{MAX_RECIPIENTS, may_reach, select, select_into};
 use message_view::View;
-use owners::WellKnown;
 use published::BusBrand;
 use routing::Mailbox;
 
@@ -119,36 +117,20 @@ impl<B: BusBrand, M: Mailbox> Pass<B, M> {
         Ok(found)
     }
 
-    /// The primary owner of a name, after a history that begins with what was seen, and is seen then.
+    /// The connection that owns a name, which is unique or well-known, after a history that begins with what was seen, and is seen
+    /// then.
     ///
     /// # Errors
     ///
     /// `Closed` where the pass was never connected, or was closed, or the bus is gone.
-    pub fn owner_of(&mut self, name: &WellKnown) -> Result<Option<u64>, BusError>
+    pub fn owner_of(&mut self, name: &str) -> Result<Option<u64>, BusError>
         ensures found { MatchResult result
-            (λ found. IsPrefix self.old.seen self.new.seen × (found ≡ owner_of name.now (after self.new.seen).registrations.claims))
+            (λ found. IsPrefix self.old.seen self.new.seen × MatchOption found ((n : ℕ) → IsOwner (after self.new.seen) name.now n → ⊥) (λ n. IsOwner (after self.new.seen) name.now n))
             (λ error. (error ≡ BusError.Closed) × (self.new.seen ≡ self.old.seen)) }
         ensures same { self.new ≡ record self.old { seen = self.new.seen } }
     {
         let guard = self.enter(Source::Own)?;
-        let found = guard.state().owner_of(name.as_str());
-        self.leave(guard);
-        Ok(found)
-    }
-
-    /// Whether there is a connection of this number, after a history that begins with what was seen, and is seen then.
-    ///
-    /// # Errors
-    ///
-    /// `Closed` where the pass was never connected, or was closed, or the bus is gone.
-    pub fn is_connected(&mut self, number: u64) -> Result<bool, BusError>
-        ensures found { MatchResult result
-            (λ found. IsPrefix self.old.seen self.new.seen × (found ≡ is_connected number (after self.new.seen).connections))
-            (λ error. (error ≡ BusError.Closed) × (self.new.seen ≡ self.old.seen)) }
-        ensures same { self.new ≡ record self.old { seen = self.new.seen } }
-    {
-        let guard = self.enter(Source::Own)?;
-        let found = is_there(guard.state(), number);
+        let found = owner_in(guard.state(), name);
         self.leave(guard);
         Ok(found)
     }

@@ -5,7 +5,7 @@ use Rattle.message_build.specs.Asked.{Asked}
 use Rattle.router.specs.Standing.TheVariants as standings
 use Rattle.router.specs.BusError.{BusError}
 use Rattle.router.specs.BusError.TheVariants as errors
-use Rattle.router.specs.Calls.{Once, Answers, HasNoClaim, HasSeenAll, ClaimsNothing, ClaimsOrIsGone}
+use Rattle.router.specs.Calls.{Answers, HasNoClaim, HasSeenAll, ClaimsNothing, ClaimsOrIsGone}
 use Rattle.router.specs.Command.TheVariants.{Close}
 use Rattle.router.specs.NameCall.TheVariants.{DropOne}
 use Rattle.router.specs.Passes.{PassState}
@@ -23,7 +23,6 @@ use Rattle.peers.specs.OwnerChanges.{ChangesOwner}
 use Rattle.peers.specs.Passing.{HasSeenMore, with_pass}
 use Rattle.peers.specs.PeerState.{PeerState, name_of}
 use Rattle.peers.proofs.Calling.{callers_close_none}
-use Rattle.peers.proofs.Rows.{called}
 
 module _ {M : Type 0} where
   seen_more : (v w : PassState M) (now : Publication M) → HasSeenAll v now w → HasSeenMore v w
@@ -45,12 +44,11 @@ module _ {M : Type 0} where
   name_given outbox_of u v pass w now before next asked announced giving is claims changes gives =
       let P : PeerState M → Type 0 = λ s. GivesUpName outbox_of s giving w in subst P is (pass, looked u.pass pass now claims, inl (asked, announced, (before, next, changes), gives))
 
-  pub closed : (outbox_of : M → OutboxId) (u v w : PeerState M) (asked : Result Reply BusError) (pass : PassState M) (leaving : Leaving) → u ≡ v → Once (λ before next. Answers true u.pass before (Close u.pass.connection) asked pass next) → IsClosing outbox_of asked (with_pass u pass) leaving w
+  pub closed : (outbox_of : M → OutboxId) (u v w : PeerState M) (before next : Publication M) (asked : Result Reply BusError) (pass : PassState M) (leaving : Leaving) → u ≡ v → Answers true u.pass before (Close u.pass.connection) asked pass next → IsClosing outbox_of next.history asked (with_pass u pass) leaving w
       → ClosesPass outbox_of v leaving w
-  closed outbox_of u v w asked pass leaving is d g =
-      let D : PassState M → Result Reply BusError → PassState M → Type 0 = λ p reply next. Once (λ before after. Answers true p before (Close p.connection) reply next after) in
-      let G : Result Reply BusError → PeerState M → Type 0 = λ reply mid. IsClosing outbox_of reply mid leaving w in
-      called D G u v asked pass is d g
+  closed outbox_of u v w before next asked pass leaving is d g =
+      let P : PeerState M → Type 0 = λ s. Answers true s.pass before (Close s.pass.connection) asked pass next × IsClosing outbox_of next.history asked (with_pass s pass) leaving w in
+      (asked, pass, (before, next, subst P is (d, g)))
 
   -- a signal of the bus closes no pass and opens none
   signalled : (outbox_of : M → OutboxId) (asked : Asked) (v w : PassState M) (result : Result (Unit {0}) AnswerError) → IsSignalled standings.Last outbox_of asked v result w → w.is_closed ≡ v.is_closed
@@ -60,14 +58,14 @@ module _ {M : Type 0} where
   signalled outbox_of asked v w (Err error) (is, inr (why, inr (lost, unput))) = ap (λ (p : PassState M). p.is_closed) unput.sends.same
 
   -- whoever is done has closed its pass
-  closes : (outbox_of : M → OutboxId) (v w : PeerState M) (asked : Result Reply BusError) (pass : PassState M) (leaving : Leaving) → Once (λ before next. Answers true v.pass before (Close v.pass.connection) asked pass next) → IsClosing outbox_of asked (with_pass v pass) leaving w → HasLeft leaving w
-  closes outbox_of v w (Ok reply) pass leaving (before, next, done) (is, announced, (made, signal)) =
+  closes : (outbox_of : M → OutboxId) (v w : PeerState M) (before next : Publication M) (asked : Result Reply BusError) (pass : PassState M) (leaving : Leaving) → Answers true v.pass before (Close v.pass.connection) asked pass next → IsClosing outbox_of next.history asked (with_pass v pass) leaving w → HasLeft leaving w
+  closes outbox_of v w before next (Ok reply) pass leaving done (is, announced, (made, signal, here)) =
       let P : Leaving → Type 0 = λ l. HasLeft l w in
       let u : PeerState M = with_pass v pass in
       subst P (sym is) (signalled outbox_of (change_asked u.serial (name_of u) (Some pass.connection) None) pass w.pass announced signal ∙ done.2)
-  closes outbox_of v w (Err errors.NoMemory) pass leaving once (is, same) = let P : Leaving → Type 0 = λ l. HasLeft l w in subst P (sym is) tt
-  closes outbox_of v w (Err error) pass leaving once (is, same) = let P : Leaving → Type 0 = λ l. HasLeft l w in subst P (sym is) tt
+  closes outbox_of v w before next (Err errors.NoMemory) pass leaving done (is, same) = let P : Leaving → Type 0 = λ l. HasLeft l w in subst P (sym is) tt
+  closes outbox_of v w before next (Err error) pass leaving done (is, same) = let P : Leaving → Type 0 = λ l. HasLeft l w in subst P (sym is) tt
 
   -- and telling those who wait opens none
   pub left_done : (outbox_of : M → OutboxId) (v mid w : PeerState M) → ClosesPass outbox_of v Done mid → AnswersCallers outbox_of mid w → HasLeft Done w
-  left_done outbox_of v mid w (asked, pass, once, is) answers = callers_close_none outbox_of mid w answers ∙ closes outbox_of v mid asked pass Done once is
+  left_done outbox_of v mid w (asked, pass, (before, next, (done, is))) answers = callers_close_none outbox_of mid w answers ∙ closes outbox_of v mid before next asked pass Done done is

@@ -2,6 +2,7 @@
 use Rattle.std.specs.Prelude.{MatchResult}
 use Rattle.std.proofs.Common.{◌≡◌, ℕ, Bool, true, false, not, List, [], ◌∷◌, None, Some, Result, Ok, Err, ⊎_elim, inl, inr, refl, sym, ap, subst, ◌∙◌, true≢false, Bor}
 use Rattle.outbox.specs.Items.{Item}
+use Rattle.outbox.specs.Seated.{OutboxId}
 use Rattle.signature.specs.DataType.{array, basic}
 use Rattle.message_value.specs.Value.{Values, elements, text, one_value}
 use Rattle.message_build.specs.Adding.{string_values, with_argument}
@@ -12,17 +13,23 @@ use Rattle.bus_messages.specs.declared.body.Body.{Body}
 use Rattle.bus_messages.specs.declared.body.Body.TheVariants.{Nothing, Text, Texts}
 use Rattle.bus_messages.specs.declared.error_name.ErrorName.{ErrorName}
 use Rattle.bus_messages.specs.declared.error_name.ErrorName.TheVariants as names
+use Rattle.router.specs.Command.{Command}
 use Rattle.router.specs.Passes.{PassState}
+use Rattle.router.specs.Sent.TheVariants.{Put}
+use Rattle.router.specs.Standing.{Standing}
+use Rattle.router.specs.Standing.TheVariants as standings
+use Rattle.router.specs.Unicasts.{Unicasts}
 use Rattle.peers.specs.declared.error.AnswerError.{AnswerError}
-use Rattle.peers.specs.declared.error.AnswerError.TheVariants.{Slow}
+use Rattle.peers.specs.declared.error.AnswerError.TheVariants.{NoMemory, Slow}
 use Rattle.peers.specs.declared.identity.Identity.{Identity}
 use Rattle.peers.specs.declared.refused.Refused.{Refused}
-use Rattle.peers.specs.declared.refused.Refused.TheVariants.{Error}
+use Rattle.peers.specs.declared.refused.Refused.TheVariants.{Ended, Error}
 use Rattle.peers.specs.declared.request.Request.{Request}
-use Rattle.peers.specs.Answers.{after_own_put, after_refusal, IsPut, IsEither, TurnsAwayIf, AnswersIf, IsAnswered, IsRefused, after_serial, fault_asked, reply_with, text_with, texts_with, text_values, fault_with}
+use Rattle.peers.specs.Answers.{after_own_put, after_refusal, IsPut, IsPutAt, IsEither, TurnsAwayIf, AnswersBy, IsAnswered, IsRefused, RefusesBy, after_serial, fault_asked, reply_with, text_with, texts_with, text_values, fault_with}
+use Rattle.peers.specs.Asked.{HasLooked}
 use Rattle.peers.specs.Holdings.{HoldingsState}
 use Rattle.peers.specs.LentTexts.{lent_texts}
-use Rattle.peers.specs.PeerState.{OwnState, PeerState}
+use Rattle.peers.specs.PeerState.{OwnState, PeerState, name_of}
 use Rattle.peers.specs.Serials.{serial_after}
 
 -- each definition of an answer is the message that a builder is asked for
@@ -62,23 +69,70 @@ module _ {M : Type 0} where
   put_as P Q u v (Ok x) w e f (item, mark, p, is) = (item, mark, f item.bytes p, is ∙ ap (λ (s : PeerState M). record s { own = after_own_put item s.own }) e)
   put_as P Q u v (Err x) w e f (why, is) = (why, is ∙ ap (λ (s : PeerState M). record s { own = after_refusal x s.own }) e)
 
-  no_memory_if : (wants : Bool) (request : Request) (asked : Asked) (v : PeerState M) (result : Result (Unit {0}) AnswerError) (w : PeerState M) → AnswersIf wants request (fault_asked v request names.NoMemory) v result w → AnswersIf wants request asked v result w
-  no_memory_if false request asked v result w h = h
-  no_memory_if true request asked v result w h =
+  pub placed_as : (standing : Standing) (outbox_of : M → OutboxId) (history : List (Command M)) (P Q : List ℕ → Type 0) (v : PeerState M) (result : Result (Unit {0}) AnswerError) (w : PeerState M) → ((bytes : List ℕ) → P bytes → Q bytes)
+      → IsPutAt standing outbox_of history P v result w → IsPutAt standing outbox_of history Q v result w
+  placed_as standing outbox_of history P Q v (Ok x) w f (bytes, n, p, put) = (bytes, n, f bytes p, put)
+  placed_as standing outbox_of history P Q v (Err x) w f h = h
+
+  no_memory_if : (put : ((List ℕ → Type 0) → PeerState M → Result (Unit {0}) AnswerError → PeerState M → Type 0)) (wants : Bool) (request : Request) (asked : Asked) (v : PeerState M) (result : Result (Unit {0}) AnswerError) (w : PeerState M)
+      → ((P Q : List ℕ → Type 0) → ((bytes : List ℕ) → P bytes → Q bytes) → put P (after_serial v) result w → put Q (after_serial v) result w) → AnswersBy put wants request (fault_asked v request names.NoMemory) v result w → AnswersBy put wants request asked v result w
+  no_memory_if put false request asked v result w as h = h
+  no_memory_if put true request asked v result w as h =
       let fault = fault_asked v request names.NoMemory in
-      put_as (IsEither fault fault) (IsEither asked fault) (after_serial v) (after_serial v) result w refl (λ bytes are. inr (⊎_elim (λ x. x) (λ x. x) are)) h
+      as (IsEither fault fault) (IsEither asked fault) (λ bytes are. inr (⊎_elim (λ x. x) (λ x. x) are)) h
 
   -- the error NoMemory may stand in the place of any answer
   pub no_memory_for : (request : Request) (asked : Asked) (v : PeerState M) (result : Result (Unit {0}) AnswerError) (w : PeerState M) → IsRefused request (Error names.NoMemory) v result w → IsAnswered request asked v result w
-  no_memory_for request asked v result w h = no_memory_if request.wants_answer request asked v result w h
+  no_memory_for request asked v result w h = no_memory_if IsPut request.wants_answer request asked v result w (λ P Q f put. put_as P Q (after_serial v) (after_serial v) result w refl f put) h
 
-  pub answered_if : (request : Request) (asked : Asked) (v : PeerState M) (result : Result (Unit {0}) AnswerError) (w : PeerState M) → request.wants_answer ≡ true
-      → IsPut (IsEither asked (fault_asked v request names.NoMemory)) (after_serial v) result w → IsAnswered request asked v result w
-  answered_if request asked v result w e h = let P : Bool → Type 0 = λ b. AnswersIf b request asked v result w in subst P (sym e) h
+  pub no_memory_placed : (outbox_of : M → OutboxId) (history : List (Command M)) (request : Request) (asked : Asked) (v : PeerState M) (result : Result (Unit {0}) AnswerError) (w : PeerState M) → RefusesBy (IsPutAt standings.State outbox_of history) request (Error names.NoMemory) v result w
+      → AnswersBy (IsPutAt standings.State outbox_of history) request.wants_answer request asked v result w
+  no_memory_placed outbox_of history request asked v result w h =
+      no_memory_if (IsPutAt standings.State outbox_of history) request.wants_answer request asked v result w (λ P Q f put. placed_as standings.State outbox_of history P Q (after_serial v) result w f put) h
 
-  pub refused_if : (request : Request) (why : Refused) (name : ErrorName) (v : PeerState M) (result : Result (Unit {0}) AnswerError) (w : PeerState M) → why ≡ Error name → request.wants_answer ≡ true
-      → IsPut (IsEither (fault_asked v request name) (fault_asked v request names.NoMemory)) (after_serial v) result w → IsRefused request why v result w
-  refused_if request why name v result w is e h = let P : Refused → Type 0 = λ y. IsRefused request y v result w in subst P (sym is) (answered_if request (fault_asked v request name) v result w e h)
+  -- a caller that waits was answered
+  pub answered_if : (put : ((List ℕ → Type 0) → PeerState M → Result (Unit {0}) AnswerError → PeerState M → Type 0)) (request : Request) (asked : Asked) (v : PeerState M) (result : Result (Unit {0}) AnswerError) (w : PeerState M) → request.wants_answer ≡ true
+      → put (IsEither asked (fault_asked v request names.NoMemory)) (after_serial v) result w → AnswersBy put request.wants_answer request asked v result w
+  answered_if put request asked v result w e h = let P : Bool → Type 0 = λ b. AnswersBy put b request asked v result w in subst P (sym e) h
+
+  pub refused_if : (put : ((List ℕ → Type 0) → PeerState M → Result (Unit {0}) AnswerError → PeerState M → Type 0)) (request : Request) (why : Refused) (name : ErrorName) (v : PeerState M) (result : Result (Unit {0}) AnswerError) (w : PeerState M) → why ≡ Error name → request.wants_answer ≡ true
+      → put (IsEither (fault_asked v request name) (fault_asked v request names.NoMemory)) (after_serial v) result w → RefusesBy put request why v result w
+  refused_if put request why name v result w is e h = let P : Refused → Type 0 = λ y. RefusesBy put request y v result w in subst P (sym is) (answered_if put request (fault_asked v request name) v result w e h)
+
+  -- what was built with the next serial was put, or nothing was built
+  pub built_put : (P : List ℕ → Type 0) (bytes : List ℕ) (v u w : PeerState M) (result : Result (Unit {0}) AnswerError) → u ≡ after_serial v → P bytes → IsPut (λ put. put ≡ bytes) u result w → IsPut P (after_serial v) result w
+  built_put P bytes v u w result is built put = put_as (λ put. put ≡ bytes) P u (after_serial v) result w is (λ put e. subst P (sym e) built) put
+
+  pub built_placed : (standing : Standing) (outbox_of : M → OutboxId) (history : List (Command M)) (P : List ℕ → Type 0) (bytes : List ℕ) (v u w : PeerState M) (result : Result (Unit {0}) AnswerError) → u ≡ after_serial v → P bytes
+      → IsPutAt standing outbox_of history (λ put. put ≡ bytes) u result w → IsPutAt standing outbox_of history P (after_serial v) result w
+  built_placed standing outbox_of history P bytes v u w result is built put =
+      let S : PeerState M → Type 0 = λ s. IsPutAt standing outbox_of history P s result w in
+      subst S is (placed_as standing outbox_of history (λ put. put ≡ bytes) P u result w (λ put e. subst P (sym e) built) put)
+
+  pub unbuilt_put : (P : List ℕ → Type 0) (v w : PeerState M) (error : AnswerError) → w ≡ after_serial v → error ≡ NoMemory → IsPut P (after_serial v) (Err error) w
+  unbuilt_put P v w error is none =
+      let Q : AnswerError → Type 0 = λ e. IsPut P (after_serial v) (Err e) w in subst Q (sym none) (inr refl, is)
+
+  pub unbuilt_placed : (standing : Standing) (outbox_of : M → OutboxId) (history : List (Command M)) (P : List ℕ → Type 0) (v w : PeerState M) (error : AnswerError) → w ≡ after_serial v → error ≡ NoMemory → IsPutAt standing outbox_of history P (after_serial v) (Err error) w
+  unbuilt_placed standing outbox_of history P v w error is none =
+      let Q : AnswerError → Type 0 = λ e. IsPutAt standing outbox_of history P (after_serial v) (Err e) w in
+      let S : PeerState M → Type 0 = λ s. IsPutAt standing outbox_of history P (after_serial v) (Err NoMemory) s in
+      subst Q (sym none) (subst S (sym is) (inr refl, inl refl, refl))
+
+  -- a message that the pass sent to the client's own name
+  pub sent_placed : (standing : Standing) (outbox_of : M → OutboxId) (history : List (Command M)) (bytes to : List ℕ) (n : ℕ) (u v w : PeerState M) → u ≡ v → to ≡ name_of v → Unicasts standing outbox_of to bytes u.pass (Put n) w.pass → w.pass.seen ≡ history → w ≡ record u { pass = w.pass }
+      → IsPutAt standing outbox_of history (λ put. put ≡ bytes) v (Ok tt) w
+  sent_placed standing outbox_of history bytes to n u v w is named put seen same =
+      let T : List ℕ → Type 0 = λ x. Unicasts standing outbox_of x bytes v.pass (Put n) w.pass in
+      let U : PeerState M → Type 0 = λ s. Unicasts standing outbox_of to bytes s.pass (Put n) w.pass in
+      (bytes, n, refl, subst T named (subst U is put), seen, same ∙ ap (λ (s : PeerState M). record s { pass = w.pass }) is)
+
+  -- a name that was asked for and whose owner is told in what the pass has then seen
+  pub refused_seen : (outbox_of : M → OutboxId) (history : List (Command M)) (request : Request) (why : Refused) (pass : PassState M) (v : PeerState M) (result : Result (Unit {0}) AnswerError) (w : PeerState M) → HasLooked why history pass
+      → RefusesBy (IsPutAt standings.State outbox_of history) request why v result w → RefusesBy (IsPutAt standings.State outbox_of pass.seen) request why v result w
+  refused_seen outbox_of history request Ended pass v result w seen h = h
+  refused_seen outbox_of history request (Error name) pass v result w seen h =
+      let P : List (Command M) → Type 0 = λ l. RefusesBy (IsPutAt standings.State outbox_of l) request (Error name) v result w in subst P (sym seen) h
 
   -- a peer that has used a serial
   pub used_serial : (pass : PassState M) (own : OwnState) (identity : Identity) (holdings : HoldingsState) (serial next : ℕ) (v : PeerState M) → record { pass = pass; own = own; serial = serial; identity = identity; holdings = holdings } ≡ v → next ≡ serial_after serial

@@ -1,5 +1,5 @@
 -- What the bus announces of names (D-Bus Specification, "Message Bus Messages": NameOwnerChanged, NameLost, NameAcquired).
-use Rattle.std.specs.Prelude.{ℕ, ◌≡◌, ◌⊎◌, List, [], ◌∷◌, codes, Option, Some, None, Result, Ok, Err}
+use Rattle.std.specs.Prelude.{ℕ, ◌≡◌, ◌⊎◌, List, [], ◌∷◌, codes, Option, Some, None, Result, Ok, Err, IfOk}
 use Rattle.std.specs.Result.{result_and}
 use Rattle.outbox.specs.Seated.{OutboxId}
 use Rattle.owners.specs.declared.answer.Change.{Change}
@@ -8,6 +8,7 @@ use Rattle.message_build.specs.Building.{AreAsked}
 use Rattle.bus_messages.specs.Sent.{signal_asked}
 use Rattle.unique_name.specs.UniqueNames.{unique_name}
 use Rattle.router.specs.BusError.{BusError}
+use Rattle.router.specs.Command.{Command}
 use Rattle.router.specs.Source.TheVariants.{Bus}
 use Rattle.router.specs.Passes.{PassState}
 use Rattle.router.specs.Routes.{HasRouted, IsUnrouted}
@@ -49,36 +50,39 @@ module _ {M : Type 0} where
   abbrev pub IsMade : PeerState M → PeerState M → Type 0
   IsMade v w = w ≡ with_pass (after_serial v) w.pass
 
-  abbrev pub HasTold : Standing → (M → OutboxId) → Asked → List ℕ → PeerState M → Result (Unit {0}) AnswerError → PeerState M → Type 0
-  HasTold standing outbox_of asked to v result w = IsMade v w × IsTold standing outbox_of asked to v.pass result w.pass
+  -- The same under the lock of the bus: what was put stands after this history, which is what the pass has then seen.
+  abbrev pub HasTold : Standing → (M → OutboxId) → List (Command M) → Asked → List ℕ → PeerState M → Result (Unit {0}) AnswerError → PeerState M → Type 0
+  HasTold standing outbox_of history asked to v result w = IsMade v w × IsTold standing outbox_of asked to v.pass result w.pass × IfOk result (λ _. w.pass.seen ≡ history)
 
-  abbrev pub HasSignalled : Standing → (M → OutboxId) → Asked → PeerState M → Result (Unit {0}) AnswerError → PeerState M → Type 0
-  HasSignalled standing outbox_of asked v result w = IsMade v w × IsSignalled standing outbox_of asked v.pass result w.pass
+  abbrev pub HasSignalled : Standing → (M → OutboxId) → List (Command M) → Asked → PeerState M → Result (Unit {0}) AnswerError → PeerState M → Type 0
+  HasSignalled standing outbox_of history asked v result w = IsMade v w × IsSignalled standing outbox_of asked v.pass result w.pass × IfOk result (λ _. w.pass.seen ≡ history)
 
   -- a connection is told by this signal that a name was lost or acquired; nobody is nobody
-  abbrev pub TellsOwner : Standing → (M → OutboxId) → List ℕ → List ℕ → Option ℕ → PeerState M → Result (Unit {0}) AnswerError → PeerState M → Type 0
-  TellsOwner standing outbox_of member name None v result w = (result ≡ Ok tt) × (w ≡ v)
-  TellsOwner standing outbox_of member name (Some n) v result w = HasTold standing outbox_of (told_asked v.serial member name n) (unique_name n) v result w
+  abbrev pub TellsOwner : Standing → (M → OutboxId) → List (Command M) → List ℕ → List ℕ → Option ℕ → PeerState M → Result (Unit {0}) AnswerError → PeerState M → Type 0
+  TellsOwner standing outbox_of history member name None v result w = (result ≡ Ok tt) × (w ≡ v)
+  TellsOwner standing outbox_of history member name (Some n) v result w = HasTold standing outbox_of history (told_asked v.serial member name n) (unique_name n) v result w
 
-  -- A change of a name's owner: NameLost to the old one, NameOwnerChanged to all whose rules hold of it, NameAcquired to
-  -- the new one, in this order, and nothing else. They stand at the place of the next command, which makes the change. The result is the first error of these, if there is one.
-  abbrev pub Announces : (M → OutboxId) → Change → PeerState M → Result (Unit {0}) AnswerError → PeerState M → Type 0
-  Announces outbox_of change v result w =
+  -- A change of a name's owner after this history: NameLost to the old one, NameOwnerChanged to all whose rules hold of it,
+  -- NameAcquired to the new one, in this order, and nothing else. They stand at the place of the next command, which makes the
+  -- change. The result is the first error of these, if there is one.
+  abbrev pub Announces : (M → OutboxId) → List (Command M) → Change → PeerState M → Result (Unit {0}) AnswerError → PeerState M → Type 0
+  Announces outbox_of history change v result w =
       (mid next : PeerState M) × (lost changed acquired : Result (Unit {0}) AnswerError)
-      × TellsOwner standings.Next outbox_of (codes "NameLost") change.name change.old v lost mid
-      × HasSignalled standings.Next outbox_of (change_asked mid.serial change.name change.old change.new) mid changed next
-      × TellsOwner standings.Next outbox_of (codes "NameAcquired") change.name change.new next acquired w
+      × TellsOwner standings.Next outbox_of history (codes "NameLost") change.name change.old v lost mid
+      × HasSignalled standings.Next outbox_of history (change_asked mid.serial change.name change.old change.new) mid changed next
+      × TellsOwner standings.Next outbox_of history (codes "NameAcquired") change.name change.new next acquired w
       × (result ≡ result_and (result_and lost changed) acquired)
 
   -- a change, if there is one, is announced
-  abbrev pub AnnouncesAny : (M → OutboxId) → Option Change → PeerState M → Result (Unit {0}) AnswerError → PeerState M → Type 0
-  AnnouncesAny outbox_of None v result w = (result ≡ Ok tt) × (w ≡ v)
-  AnnouncesAny outbox_of (Some change) v result w = Announces outbox_of change v result w
+  abbrev pub AnnouncesAny : (M → OutboxId) → List (Command M) → Option Change → PeerState M → Result (Unit {0}) AnswerError → PeerState M → Type 0
+  AnnouncesAny outbox_of history None v result w = (result ≡ Ok tt) × (w ≡ v)
+  AnnouncesAny outbox_of history (Some change) v result w = Announces outbox_of history change v result w
 
-  -- the client's own unique name is there: NameOwnerChanged, then NameAcquired, at the place of the command that made it
-  abbrev pub AnnouncesArrival : (M → OutboxId) → PeerState M → Result (Unit {0}) AnswerError → PeerState M → Type 0
-  AnnouncesArrival outbox_of v result w =
+  -- the client's own unique name is there after this history: NameOwnerChanged, then NameAcquired, at the place of its last
+  -- command, which made it
+  abbrev pub AnnouncesArrival : (M → OutboxId) → List (Command M) → PeerState M → Result (Unit {0}) AnswerError → PeerState M → Type 0
+  AnnouncesArrival outbox_of history v result w =
       (mid : PeerState M) × (changed acquired : Result (Unit {0}) AnswerError)
-      × HasSignalled standings.Last outbox_of (change_asked v.serial (name_of v) None (Some v.pass.connection)) v changed mid
-      × TellsOwner standings.Last outbox_of (codes "NameAcquired") (name_of v) (Some v.pass.connection) mid acquired w
+      × HasSignalled standings.Last outbox_of history (change_asked v.serial (name_of v) None (Some v.pass.connection)) v changed mid
+      × TellsOwner standings.Last outbox_of history (codes "NameAcquired") (name_of v) (Some v.pass.connection) mid acquired w
       × (result ≡ result_and changed acquired)

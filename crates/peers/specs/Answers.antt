@@ -1,6 +1,7 @@
 -- What calls are answered (D-Bus Specification, "Message Format").
 use Rattle.std.specs.Prelude.{ℕ, ◌≡◌, ◌⊎◌, ◌++◌, Bool, true, false, List, [], ◌∷◌, Some, None, Result, Ok, Err, IfErr, codes}
 use Rattle.outbox.specs.Items.{Item}
+use Rattle.outbox.specs.Seated.{OutboxId}
 use Rattle.signature.specs.DataType.{array, basic}
 use Rattle.message_value.specs.Value.{Values, elements, text, no_values, one_value}
 use Rattle.message_build.specs.Adding.{with_argument}
@@ -12,6 +13,11 @@ use Rattle.bus_messages.specs.declared.body.Body.{Body}
 use Rattle.bus_messages.specs.declared.body.Body.TheVariants.{Nothing}
 use Rattle.bus_messages.specs.declared.error_name.ErrorName.{ErrorName}
 use Rattle.bus_messages.specs.declared.error_name.ErrorName.TheVariants as names
+use Rattle.router.specs.Command.{Command}
+use Rattle.router.specs.Routes.{HasNotPut}
+use Rattle.router.specs.Sent.TheVariants.{Put}
+use Rattle.router.specs.Standing.{Standing}
+use Rattle.router.specs.Unicasts.{Unicasts}
 use Rattle.peers.specs.declared.error.AnswerError.{AnswerError}
 use Rattle.peers.specs.declared.error.AnswerError.TheVariants.{NoMemory, Slow, Monitor}
 use Rattle.peers.specs.declared.request.Request.{Request}
@@ -34,6 +40,11 @@ after_refusal _ own = own
 -- after a put of this message
 abbrev pub after_own_put : Item → OwnState → OwnState
 after_own_put item own = record own { put = own.put ++ item ∷ []; is_waiting = true }
+
+-- of an outbox that was found to be shut, that is known
+abbrev pub after_finding : AnswerError → OwnState → OwnState
+after_finding Slow own = record own { knows_shut = true }
+after_finding _ own = own
 
 -- why a message isn't put: there is no room for it, or no memory
 abbrev pub IsUnput : AnswerError → Type 0
@@ -94,6 +105,14 @@ module _ {M : Type 0} where
   IsPut P v (Ok _) w = (item : Item) × (item.mark ≡ None) × P item.bytes × (w ≡ record v { own = after_own_put item v.own })
   IsPut P v (Err error) w = IsUnput error × (w ≡ record v { own = after_refusal error v.own })
 
+  -- The same by the client's pass, of a message that tells of names: it was put to the client, who owns its unique name, at the
+  -- place at which it stands after this history, which is what the pass has then seen. Or nothing was put.
+  abbrev pub IsPutAt : Standing → (M → OutboxId) → List (Command M) → (List ℕ → Type 0) → PeerState M → Result (Unit {0}) AnswerError → PeerState M → Type 0
+  IsPutAt standing outbox_of history P v (Ok _) w =
+      (bytes : List ℕ) × (n : ℕ) × P bytes × Unicasts standing outbox_of (name_of v) bytes v.pass (Put n) w.pass × (w.pass.seen ≡ history) × (w ≡ record v { pass = w.pass })
+  IsPutAt standing outbox_of history P v (Err error) w =
+      IsUnput error × ((w.pass ≡ v.pass) ⊎ HasNotPut outbox_of v.pass w.pass) × (w ≡ record v { pass = w.pass; own = after_finding error v.own })
+
   -- one serial is used for a message of the bus
   abbrev pub after_serial : PeerState M → PeerState M
   after_serial v = record v { serial = serial_after v.serial }
@@ -102,16 +121,20 @@ module _ {M : Type 0} where
   abbrev pub fault_asked : PeerState M → Request → ErrorName → Asked
   fault_asked v request name = fault_with v.serial (name_of v) request name
 
-  abbrev pub AnswersIf : Bool → Request → Asked → PeerState M → Result (Unit {0}) AnswerError → PeerState M → Type 0
-  AnswersIf false request asked v result w = (result ≡ Ok tt) × (w ≡ v)
-  AnswersIf true request asked v result w = IsPut (IsEither asked (fault_asked v request names.NoMemory)) (after_serial v) result w
-
   -- The call of a caller that waits is answered with just this message, or with the error NoMemory in its place; or the
-  -- answer finds no room or no memory, and nothing is put. The call of one that doesn't wait is answered with nothing.
-  abbrev pub IsAnswered : Request → Asked → PeerState M → Result (Unit {0}) AnswerError → PeerState M → Type 0
-  IsAnswered request asked v result w = AnswersIf request.wants_answer request asked v result w
+  -- answer finds no room or no memory, and nothing is put. The call of one that doesn't wait is answered with nothing. How an
+  -- answer is put is said by `put`: `IsPut`, or `IsPutAt` where it tells of names.
+  abbrev pub AnswersBy : ((List ℕ → Type 0) → PeerState M → Result (Unit {0}) AnswerError → PeerState M → Type 0) → Bool → Request → Asked → PeerState M → Result (Unit {0}) AnswerError → PeerState M → Type 0
+  AnswersBy put false request asked v result w = (result ≡ Ok tt) × (w ≡ v)
+  AnswersBy put true request asked v result w = put (IsEither asked (fault_asked v request names.NoMemory)) (after_serial v) result w
 
   -- the call is answered with an error; or the bus has ended, and with it the session
+  abbrev pub RefusesBy : ((List ℕ → Type 0) → PeerState M → Result (Unit {0}) AnswerError → PeerState M → Type 0) → Request → Refused → PeerState M → Result (Unit {0}) AnswerError → PeerState M → Type 0
+  RefusesBy put request Ended v result w = (result ≡ Err NoMemory) × (w ≡ v)
+  RefusesBy put request (Error name) v result w = AnswersBy put request.wants_answer request (fault_asked v request name) v result w
+
+  abbrev pub IsAnswered : Request → Asked → PeerState M → Result (Unit {0}) AnswerError → PeerState M → Type 0
+  IsAnswered request asked v result w = AnswersBy IsPut request.wants_answer request asked v result w
+
   abbrev pub IsRefused : Request → Refused → PeerState M → Result (Unit {0}) AnswerError → PeerState M → Type 0
-  IsRefused request Ended v result w = (result ≡ Err NoMemory) × (w ≡ v)
-  IsRefused request (Error name) v result w = IsAnswered request (fault_asked v request name) v result w
+  IsRefused request why v result w = RefusesBy IsPut request why v result w

@@ -1,20 +1,23 @@
 -- How a client joins the bus, and what Hello is answered (D-Bus Specification, "Message Bus Messages": Hello).
-use Rattle.std.specs.Prelude.{◌≡◌, ◌⊎◌, Result, Ok, Err}
+use Rattle.std.specs.Prelude.{◌≡◌, ◌⊎◌, List, Result, Ok, Err}
 use Rattle.std.specs.Result.{result_and}
 use Rattle.outbox.specs.Seated.{OutboxId}
 use Rattle.bus_messages.specs.declared.error_name.ErrorName.TheVariants.{NoMemory}
 use Rattle.router.specs.BusError.{BusError}
 use Rattle.router.specs.Calls.{Connects}
+use Rattle.router.specs.Command.{Command}
 use Rattle.router.specs.Passes.{PassState}
 use Rattle.router.specs.Publication.{Publication}
 use Rattle.router.specs.Reply.{Reply}
+use Rattle.router.specs.Standing.TheVariants as standings
 use Rattle.peers.specs.declared.error.AnswerError.{AnswerError}
 use Rattle.peers.specs.declared.refused.Refused.{Refused}
 use Rattle.peers.specs.declared.refused.Refused.TheVariants.{Error}
 use Rattle.peers.specs.declared.request.Request.{Request}
 use Rattle.peers.specs.Announcements.{AnnouncesArrival}
+use Rattle.peers.specs.Answers.{IsPutAt}
 use Rattle.peers.specs.PeerState.{PeerState, name_of}
-use Rattle.peers.specs.Queries.{RepliesText}
+use Rattle.peers.specs.Queries.{RepliesTextBy}
 use Rattle.peers.specs.Refusals.{refusal_of}
 
 module _ {M : Type 0} where
@@ -25,9 +28,10 @@ module _ {M : Type 0} where
   Joins outbox_of outbox v before (Err why) w next =
       ((why ≡ Error NoMemory) × (w ≡ v) × (next ≡ before)) ⊎ ((mailbox : M) × (error : BusError) × Connects v before mailbox (Err error) w next × (why ≡ refusal_of error))
 
-  -- The call is answered with the client's name, and then the name is announced. The result is the first error of these.
-  abbrev pub Registers : (M → OutboxId) → Request → PeerState M → Result (Unit {0}) AnswerError → PeerState M → Type 0
-  Registers outbox_of request v result w =
+  -- After this history, whose last command has made its connection, the client is answered its name, and then the name is
+  -- announced, all at the place of that command. The result is the first error of these.
+  abbrev pub Registers : (M → OutboxId) → List (Command M) → Request → PeerState M → Result (Unit {0}) AnswerError → PeerState M → Type 0
+  Registers outbox_of history request v result w =
       (mid : PeerState M) × (answered announced : Result (Unit {0}) AnswerError)
-      × RepliesText request (name_of v) v answered mid
-      × AnnouncesArrival outbox_of mid announced w × (result ≡ result_and answered announced)
+      × RepliesTextBy (IsPutAt standings.Last outbox_of history) request (name_of v) v answered mid
+      × AnnouncesArrival outbox_of history mid announced w × (result ≡ result_and answered announced)

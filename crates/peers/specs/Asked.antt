@@ -4,7 +4,9 @@ use Rattle.signature.specs.Name.{is_bus_name, bus_name}
 use Rattle.owners.specs.Queues.{owner_of, queue_of}
 use Rattle.owners.specs.Claimable.{is_claimable}
 use Rattle.unique_name.specs.UniqueNames.{unique_name}
+use Rattle.router.specs.Command.{Command}
 use Rattle.router.specs.Connections.{is_connected}
+use Rattle.router.specs.Passes.{PassState}
 use Rattle.router.specs.State.{State}
 use Rattle.bus_messages.specs.declared.error_name.ErrorName.TheVariants.{InvalidArgs}
 use Rattle.peers.specs.declared.refused.Refused.{Refused}
@@ -47,6 +49,11 @@ module _ {M : Type 0} where
   queue_in s (asked.Unique None) = []
   queue_in s (asked.Unique (Some n)) = if is_connected n s.connections then unique_name n ∷ [] else []
   queue_in s (asked.WellKnown name) = map unique_name (queue_of name s.registrations.claims)
+
+  -- the pass has seen what is published, unless the bus has ended
+  abbrev pub HasLooked : Refused → List (Command M) → PassState M → Type 0
+  HasLooked Ended history w = Unit {0}
+  HasLooked why history w = w.seen ≡ history
 
   -- the owner of the name that a text is, in a state; or that it is no name, or the bus has ended
   abbrev pub IsOwnerOf : State M → List ℕ → Result (Option Owner) Refused → Type 0

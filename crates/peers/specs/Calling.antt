@@ -13,7 +13,7 @@ use Rattle.unique_name.specs.UniqueNames.{unique_name}
 use Rattle.router.specs.Standing.TheVariants as standings
 use Rattle.peers.specs.declared.error.AnswerError.{AnswerError}
 use Rattle.peers.specs.declared.refused.Refused.TheVariants.{Error}
-use Rattle.peers.specs.Announcements.{HasTold}
+use Rattle.peers.specs.Announcements.{IsMade, IsTold}
 use Rattle.peers.specs.Passing.{IsStamped, IsOverLimit, SendsStamped, GivesUp, is_call}
 use Rattle.peers.specs.PeerState.{PeerState, name_of}
 use Rattle.peers.specs.Refusals.{beyond}
@@ -59,7 +59,7 @@ module _ {M : Type 0} where
 
   -- who waits for the reply to the call of this serial is told that none will come, unless memory was refused
   abbrev pub AnswersCaller : (M → OutboxId) → ℕ → ℕ → PeerState M → PeerState M → Type 0
-  AnswersCaller outbox_of caller serial v w = (outcome : Result (Unit {0}) AnswerError) × HasTold standings.Apart outbox_of (gone_asked v.serial caller serial) (unique_name caller) v outcome w
+  AnswersCaller outbox_of caller serial v w = (outcome : Result (Unit {0}) AnswerError) × IsMade v w × IsTold standings.Apart outbox_of (gone_asked v.serial caller serial) (unique_name caller) v.pass outcome w.pass
 
   -- this many were told so, one after the other
   abbrev pub AnswersMany : (M → OutboxId) → ℕ → PeerState M → PeerState M → Type 0

@@ -1,10 +1,11 @@
 -- How a peer leaves the bus (own).
-use Rattle.std.specs.Prelude.{ℕ, zero, suc, ◌≡◌, ◌⊎◌, ◌<◌, Bool, true, false, Some, None, Result, Ok, Err}
+use Rattle.std.specs.Prelude.{ℕ, zero, suc, ◌≡◌, ◌⊎◌, ◌<◌, Bool, true, false, List, Some, None, Result, Ok, Err}
 use Rattle.outbox.specs.Seated.{OutboxId}
 use Rattle.owners.specs.Registry.{max_claims}
 use Rattle.router.specs.BusError.{BusError}
 use Rattle.router.specs.BusError.TheVariants as errors
 use Rattle.router.specs.Calls.{Once, Answers, HasNoClaim}
+use Rattle.router.specs.Command.{Command}
 use Rattle.router.specs.Command.TheVariants.{Close}
 use Rattle.router.specs.NameCall.TheVariants.{DropOne}
 use Rattle.router.specs.Passes.{PassState}
@@ -22,7 +23,6 @@ use Rattle.peers.specs.OwnerChanges.{ChangesOwner}
 use Rattle.router.specs.Standing.TheVariants as standings
 use Rattle.peers.specs.Passing.{HasSeenMore, with_pass}
 use Rattle.peers.specs.PeerState.{PeerState, name_of}
-use Rattle.peers.specs.Rows.{HasCalled}
 
 -- what giving up a name comes to, by what the bus answered
 abbrev pub giving_of : Result Reply BusError → Giving
@@ -54,16 +54,19 @@ module _ {M : Type 0} where
   AreGivenUp outbox_of false v w =
       (n : ℕ) × (mid : PeerState M) × GivesUpNames outbox_of n v mid × (GivesUpName outbox_of mid givings.Refused w ⊎ ((max_claims < n) × (w ≡ mid)))
 
-  -- What closing the pass comes to, by what the bus answered: that the client's own name is gone is announced.
-  abbrev pub IsClosing : (M → OutboxId) → Result Reply BusError → PeerState M → Leaving → PeerState M → Type 0
-  IsClosing outbox_of (Ok _) v leaving w =
-      (leaving ≡ Done) × (announced : Result (Unit {0}) AnswerError) × HasSignalled standings.Last outbox_of (change_asked v.serial (name_of v) (Some v.pass.connection) None) v announced w
-  IsClosing outbox_of (Err errors.NoMemory) v leaving w = (leaving ≡ Refused) × (w ≡ v)
-  IsClosing outbox_of (Err _) v leaving w = (leaving ≡ Ended) × (w ≡ v)
+  -- What closing the pass comes to, by what the bus answered: that the client's own name is gone is announced, at the place of the
+  -- command that closed it, which is the last of this history.
+  abbrev pub IsClosing : (M → OutboxId) → List (Command M) → Result Reply BusError → PeerState M → Leaving → PeerState M → Type 0
+  IsClosing outbox_of history (Ok _) v leaving w =
+      (leaving ≡ Done) × (announced : Result (Unit {0}) AnswerError) × HasSignalled standings.Last outbox_of history (change_asked v.serial (name_of v) (Some v.pass.connection) None) v announced w
+  IsClosing outbox_of history (Err errors.NoMemory) v leaving w = (leaving ≡ Refused) × (w ≡ v)
+  IsClosing outbox_of history (Err _) v leaving w = (leaving ≡ Ended) × (w ≡ v)
 
   -- the pass is closed
   abbrev pub ClosesPass : (M → OutboxId) → PeerState M → Leaving → PeerState M → Type 0
-  ClosesPass outbox_of v leaving w = HasCalled (λ asked pass. Once (λ before next. Answers true v.pass before (Close v.pass.connection) asked pass next)) (λ asked mid. IsClosing outbox_of asked mid leaving w) v
+  ClosesPass outbox_of v leaving w =
+      (asked : Result Reply BusError) × (pass : PassState M)
+      × Once (λ before next. Answers true v.pass before (Close v.pass.connection) asked pass next × IsClosing outbox_of next.history asked (with_pass v pass) leaving w)
 
   -- who waits for the replies of a client that is gone is told that none will come
   abbrev pub AnswersAfter : (M → OutboxId) → Leaving → PeerState M → PeerState M → Type 0

@@ -13,36 +13,38 @@ use Rattle.router.specs.Reply.TheVariants as replies
 use Rattle.router.specs.Calls.{Once}
 use Rattle.router.specs.NameCall.{NameCall}
 use Rattle.router.specs.NameCall.TheVariants as calls
+use Rattle.router.specs.Standing.TheVariants as standings
 use Rattle.peers.specs.declared.error.AnswerError.{AnswerError}
 use Rattle.peers.specs.declared.request.Request.{Request}
 use Rattle.peers.specs.declared.refused.Refused.TheVariants.{Error}
-use Rattle.peers.specs.Answers.{IsRefused}
+use Rattle.peers.specs.Answers.{IsPutAt, IsRefused, RefusesBy}
 use Rattle.peers.specs.Holdings.{HoldingsState, after_request, after_release}
 use Rattle.peers.specs.OwnerChanges.{ChangesOwner}
 use Rattle.peers.specs.PeerState.{PeerState}
 use Rattle.peers.specs.Refusals.{refusal_of}
 use Rattle.peers.specs.Shares.{WithinShare, WithinMemory, name_limit}
 use Rattle.peers.specs.declared.shares.Shares.{Shares}
-use Rattle.peers.specs.Rows.{Replies, with_holdings}
+use Rattle.peers.specs.Rows.{RepliesBy, with_holdings}
 
 module _ {M : Type 0} where
-  -- the number of the bus's answer, or the error of its refusal
-  abbrev pub TellsNamed : Request → Result Reply BusError → PeerState M → Result (Unit {0}) AnswerError → PeerState M → Type 0
-  TellsNamed request (Ok (replies.Name named)) v result w = Replies request (Number (name_reply_number named.answer)) v result w
-  TellsNamed request (Ok _) v result w = (result ≡ Ok tt) × (w ≡ v)
-  TellsNamed request (Err error) v result w = IsRefused request (refusal_of error) v result w
+  -- the number of the bus's answer, or the error of its refusal, which is put so
+  abbrev pub TellsNamed : ((List ℕ → Type 0) → PeerState M → Result (Unit {0}) AnswerError → PeerState M → Type 0) → Request → Result Reply BusError → PeerState M → Result (Unit {0}) AnswerError → PeerState M → Type 0
+  TellsNamed put request (Ok (replies.Name named)) v result w = RepliesBy put request (Number (name_reply_number named.answer)) v result w
+  TellsNamed put request (Ok _) v result w = (result ≡ Ok tt) × (w ≡ v)
+  TellsNamed put request (Err error) v result w = RefusesBy put request (refusal_of error) v result w
 
   -- the name isn't one that can be asked for
   abbrev pub IsUnclaimable : Request → List ℕ → PeerState M → Result (Unit {0}) AnswerError → PeerState M → Type 0
   IsUnclaimable request name v result w = (fault : ClaimError) × (name_in name ≡ Err fault) × IsRefused request (Error InvalidArgs) v result w
 
   -- The call was made: a change of the owner was announced, and then it came about. What the client holds changes by the bus's
-  -- answer, and the client is told it, after what was announced. The result is the first error of these.
+  -- answer, and the client is told it, after what was announced, at the place of the state after the call. The result is the first
+  -- error of these.
   abbrev pub ChangesName : (M → OutboxId) → Request → NameCall → (Result Reply BusError → HoldingsState → HoldingsState) → PeerState M → Result (Unit {0}) AnswerError → PeerState M → Type 0
   ChangesName outbox_of request call change v result w =
       (asked : Result Reply BusError) × (mid : PeerState M) × (announced answered : Result (Unit {0}) AnswerError)
-      × Once (λ before next. ChangesOwner outbox_of call v before asked announced mid next)
-      × TellsNamed request asked (with_holdings (change asked) mid) answered w
+      × Once (λ before next.
+          ChangesOwner outbox_of call v before asked announced mid next × TellsNamed (IsPutAt standings.State outbox_of next.history) request asked (with_holdings (change asked) mid) answered w)
       × (result ≡ result_and announced answered)
 
   -- within the client's share of names

@@ -27,7 +27,7 @@ module _ {M : Type 0} where
   -- in between.
   abbrev pub ChangesAhead : (M → OutboxId) → NameCall → Change → PeerState M → Publication M → Result Reply BusError → Result (Unit {0}) AnswerError → PeerState M → Publication M → Type 0
   ChangesAhead outbox_of call change v before asked announced w next =
-      (mid : PeerState M) × Announces outbox_of change v announced mid × Answers false mid.pass before (command_of mid.pass.connection call) asked w.pass next × (w ≡ with_pass mid w.pass)
+      (mid : PeerState M) × Announces outbox_of before.history change v announced mid × Answers false mid.pass before (command_of mid.pass.connection call) asked w.pass next × (w ≡ with_pass mid w.pass)
 
   -- The call was made after what is published. The change that it makes, if any, was announced first, to those who hear of it in
   -- just that state.
@@ -37,6 +37,6 @@ module _ {M : Type 0} where
       × HasSeenMore v.pass seen
       × IfSome change (λ _. seen.seen ≡ before.history)
       × IsChangeOf change before (command_of v.pass.connection call) asked
-      × AnnouncesAny outbox_of change (with_pass v seen) announced mid
+      × AnnouncesAny outbox_of before.history change (with_pass v seen) announced mid
       × Answers false mid.pass before (command_of mid.pass.connection call) asked w.pass next
       × (w ≡ with_pass mid w.pass)

@@ -1,5 +1,5 @@
 -- What each method of the bus does, and is answered (D-Bus Specification, "Message Bus Messages").
-use Rattle.std.specs.Prelude.{◌≡◌, Result, Ok, Err}
+use Rattle.std.specs.Prelude.{◌≡◌, ℕ, List, Result, Ok, Err}
 use Rattle.bus_messages.specs.declared.body.Body.{Body}
 use Rattle.bus_messages.specs.declared.body.Body.TheVariants as bodies
 use Rattle.router.specs.BusError.{BusError}
@@ -8,16 +8,19 @@ use Rattle.router.specs.Reply.TheVariants as replies
 use Rattle.router.specs.Passes.{PassState}
 use Rattle.peers.specs.declared.error.AnswerError.{AnswerError}
 use Rattle.peers.specs.declared.request.Request.{Request}
-use Rattle.peers.specs.Answers.{IsAnswered, IsRefused, reply_with}
+use Rattle.peers.specs.Answers.{AnswersBy, IsPut, IsRefused, reply_with}
 use Rattle.peers.specs.Holdings.{HoldingsState}
 use Rattle.peers.specs.Passing.{with_pass}
 use Rattle.peers.specs.PeerState.{PeerState, name_of}
 use Rattle.peers.specs.Refusals.{refusal_of}
 
 module _ {M : Type 0} where
-  -- the call is answered with these arguments
+  -- the call is answered with these arguments, which are put so
+  abbrev pub RepliesBy : ((List ℕ → Type 0) → PeerState M → Result (Unit {0}) AnswerError → PeerState M → Type 0) → Request → Body → PeerState M → Result (Unit {0}) AnswerError → PeerState M → Type 0
+  RepliesBy put request body v result w = AnswersBy put request.wants_answer request (reply_with v.serial (name_of v) request body) v result w
+
   abbrev pub Replies : Request → Body → PeerState M → Result (Unit {0}) AnswerError → PeerState M → Type 0
-  Replies request body v result w = IsAnswered request (reply_with v.serial (name_of v) request body) v result w
+  Replies request body v result w = RepliesBy IsPut request body v result w
 
   -- an empty answer if the bus did what was asked, or the error of its refusal
   abbrev pub Confirms : Request → Result Reply BusError → PeerState M → Result (Unit {0}) AnswerError → PeerState M → Type 0

@@ -1,6 +1,6 @@
 // What the bus announces of names.
 
-ghost use Rattle.std.specs.Prelude.{◌≡◌, ◌∷◌, [], codes, None, Some, IfErr, option_map};
+ghost use Rattle.std.specs.Prelude.{◌≡◌, ◌∷◌, [], codes, None, Some, IfErr, IfOk, option_map};
 ghost use Rattle.bus_messages.specs.Sent.{Builds};
 ghost use Rattle.message_build.specs.Asked.{Asked};
 ghost use Rattle.message_view.specs.Message.{Message};
@@ -36,7 +36,7 @@ impl<B: BusBrand, M: Mailbox> Peer<B, M> {
         control: &mut Control<B, M, R>,
         change: &Change,
     ) -> Result<(), AnswerError>
-        ensures announced { Announces M.outbox_of change.now self.old result self.new }
+        ensures announced { Announces M.outbox_of control.old.history change.now self.old result self.new }
         ensures error { IfErr result (λ error. error ≡ AnswerError.NoMemory) }
         ensures control { control.new ≡ control.old }
     {
@@ -59,7 +59,7 @@ impl<B: BusBrand, M: Mailbox> Peer<B, M> {
         lists: &mut RouteLists,
         control: &mut Control<B, M, R>,
     ) -> Result<(), AnswerError>
-        ensures announced { AnnouncesArrival M.outbox_of self.old result self.new }
+        ensures announced { AnnouncesArrival M.outbox_of control.old.history self.old result self.new }
         ensures error { IfErr result (λ error. error ≡ AnswerError.NoMemory) }
         ensures control { control.new ≡ control.old }
     {
@@ -90,7 +90,7 @@ impl<B: BusBrand, M: Mailbox> Peer<B, M> {
         lists: &mut RouteLists,
         control: &mut Control<B, M, R>,
     ) -> Result<(), AnswerError>
-        ensures announced { HasSignalled Standing.Last M.outbox_of (change_asked self.old.serial (name_of self.old) (Some self.old.pass.connection) None) self.old result self.new }
+        ensures announced { HasSignalled Standing.Last M.outbox_of control.old.history (change_asked self.old.serial (name_of self.old) (Some self.old.pass.connection) None) self.old result self.new }
         ensures control { control.new ≡ control.old }
     {
         let at = Standing::Last;
@@ -115,7 +115,7 @@ impl<B: BusBrand, M: Mailbox> Peer<B, M> {
         owner: Option<u64>,
         name: &str,
     ) -> Result<(), AnswerError>
-        ensures told { TellsOwner at M.outbox_of (codes "NameLost") name.now owner self.old result self.new }
+        ensures told { TellsOwner at M.outbox_of control.old.history (codes "NameLost") name.now owner self.old result self.new }
         ensures control { control.new ≡ control.old }
     {
         match owner {
@@ -132,7 +132,7 @@ impl<B: BusBrand, M: Mailbox> Peer<B, M> {
         owner: Option<u64>,
         name: &str,
     ) -> Result<(), AnswerError>
-        ensures told { TellsOwner at M.outbox_of (codes "NameAcquired") name.now owner self.old result self.new }
+        ensures told { TellsOwner at M.outbox_of control.old.history (codes "NameAcquired") name.now owner self.old result self.new }
         ensures control { control.new ≡ control.old }
     {
         match owner {
@@ -150,7 +150,7 @@ impl<B: BusBrand, M: Mailbox> Peer<B, M> {
         name: &str,
     ) -> Result<(), AnswerError>
         ensures control { control.new ≡ control.old }
-        ensures told { HasTold at M.outbox_of (told_asked self.old.serial (codes "NameLost") name.now old) (unique_name old) self.old result self.new }
+        ensures told { HasTold at M.outbox_of control.old.history (told_asked self.old.serial (codes "NameLost") name.now old) (unique_name old) self.old result self.new }
     {
         let to = UniqueName::new(old);
         let serial = self.serials.take();
@@ -167,7 +167,7 @@ impl<B: BusBrand, M: Mailbox> Peer<B, M> {
         name: &str,
     ) -> Result<(), AnswerError>
         ensures control { control.new ≡ control.old }
-        ensures told { HasTold at M.outbox_of (told_asked self.old.serial (codes "NameAcquired") name.now new) (unique_name new) self.old result self.new }
+        ensures told { HasTold at M.outbox_of control.old.history (told_asked self.old.serial (codes "NameAcquired") name.now new) (unique_name new) self.old result self.new }
     {
         let to = UniqueName::new(new);
         let serial = self.serials.take();
@@ -209,6 +209,7 @@ impl<B: BusBrand, M: Mailbox> Peer<B, M> {
         built_message: Result<Bytes, BuildError>,
     ) -> Result<(), AnswerError>
         ensures pass { (asked : Asked) → Builds asked built_message → IsTold at M.outbox_of asked (unique_name to.now) self.old.pass result self.new.pass }
+        ensures seen { IfOk result (λ _. self.new.pass.seen ≡ control.old.history) }
         ensures same { self.new ≡ with_pass self.old self.new.pass }
         ensures control { control.new ≡ control.old }
     {
@@ -242,7 +243,7 @@ impl<B: BusBrand, M: Mailbox> Peer<B, M> {
         new: Option<u64>,
     ) -> Result<(), AnswerError>
         ensures control { control.new ≡ control.old }
-        ensures signalled { HasSignalled at M.outbox_of (change_asked self.old.serial name.now old new) self.old result self.new }
+        ensures signalled { HasSignalled at M.outbox_of control.old.history (change_asked self.old.serial name.now old new) self.old result self.new }
     {
         let serial = self.serials.take();
         let old = unique_name_of(old);
@@ -272,6 +273,7 @@ impl<B: BusBrand, M: Mailbox> Peer<B, M> {
         requires { (m : Message) × Valid bytes.now m }
         ensures error { IfErr result (λ error. error ≡ AnswerError.NoMemory) }
         ensures routed { Broadcasts at M.outbox_of Source.Bus bytes.now self.old.pass result lists.new.recipients.items lists.new.refused.items self.new.pass }
+        ensures seen { IfOk result (λ _. self.new.pass.seen ≡ control.old.history) }
         ensures same { self.new ≡ with_pass self.old self.new.pass }
         ensures control { control.new ≡ control.old }
     {

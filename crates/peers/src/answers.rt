@@ -3,11 +3,11 @@
 ghost use Rattle.std.specs.Prelude.{◌≡◌, ◌∷◌, [], Some, IfErr, IfOk, option_map};
 ghost use Rattle.signature.specs.Name.{bus_name};
 ghost use Rattle.bus_messages.specs.Sent.{error_asked};
-ghost use Rattle.peers.specs.Answers.{IsRefused, IsPut, IsEither, SlowIfShut, UnlessShut, fault_with};
+ghost use Rattle.peers.specs.Answers.{IsRefused, RefusesBy, IsPut, IsPutAt, IsEither, SlowIfShut, UnlessShut, after_serial, fault_asked, reply_with};
 ghost use Rattle.peers.specs.LentTexts.{lent_texts};
 ghost use Rattle.peers.specs.PeerState.{name_of};
-ghost use Rattle.peers.specs.Queries.{RepliesText, RepliesTexts};
-ghost use Rattle.peers.specs.Rows.{Replies};
+ghost use Rattle.peers.specs.Queries.{RepliesText, RepliesTexts, RepliesTextsBy};
+ghost use Rattle.peers.specs.Rows.{Replies, RepliesBy};
 
 use crate::context::Context;
 use crate::error::AnswerError;
@@ -16,7 +16,7 @@ use crate::peer::Peer;
 use crate::refused::Refused;
 use crate::request::Request;
 use bus_messages::{Body, Bytes, ErrorName, error, reply};
-use router::{BusBrand, Mailbox};
+use router::{BusBrand, Control, Mailbox, Sent, Source, Standing};
 use std::alloc::Global;
 use std::sync::Wait;
 
@@ -38,12 +38,31 @@ impl<B: BusBrand, M: Mailbox> Peer<B, M> {
         if !request.wants_answer {
             return Ok(());
         }
-        let serial = self.serials.take();
-        let to = Some(self.name.as_str());
-        match reply(context.alloc, serial, to, request.serial, body) {
-            Ok(bytes) => self.put(context, bytes),
-            Err(_) => self.put_error(context, request, serial, ErrorName::NoMemory),
+        let bytes = self.reply_bytes(context.alloc, request, body)?;
+        self.put(context, bytes)
+    }
+
+    /// Answers a call about names under the lock of the bus, if its caller waits for an answer: at the place of what is published,
+    /// which the pass has then seen.
+    ///
+    /// # Errors
+    ///
+    /// As those of `answer`, and `NoMemory` if the bus has ended.
+    pub(crate) fn answer_placed<W: Wait, R: Wait + Drop>(
+        &mut self,
+        context: &Context<'_, B, M, W, R>,
+        control: &mut Control<B, M, R>,
+        request: Request,
+        body: Body<'_>,
+    ) -> Result<(), AnswerError>
+        ensures answer { RepliesBy (IsPutAt Standing.State M.outbox_of control.old.history) request body.entry self.old result self.new }
+        ensures error { UnlessShut request.wants_answer result self.new }
+    {
+        if !request.wants_answer {
+            return Ok(());
         }
+        let bytes = self.reply_bytes(context.alloc, request, body)?;
+        self.put_placed(context, control, Standing::State, bytes)
     }
 
     /// Answers a call with an error, if its caller waits for an answer.
@@ -66,8 +85,33 @@ impl<B: BusBrand, M: Mailbox> Peer<B, M> {
         if !request.wants_answer {
             return Ok(());
         }
-        let serial = self.serials.take();
-        self.put_error(context, request, serial, name)
+        let bytes = self.fault_bytes(context.alloc, request, name)?;
+        self.put(context, bytes)
+    }
+
+    /// Answers a call about names with an error, as `answer_placed` does.
+    ///
+    /// # Errors
+    ///
+    /// As those of `answer_placed`.
+    pub(crate) fn refuse_placed<W: Wait, R: Wait + Drop>(
+        &mut self,
+        context: &Context<'_, B, M, W, R>,
+        control: &mut Control<B, M, R>,
+        request: Request,
+        why: Refused,
+    ) -> Result<(), AnswerError>
+        ensures answer { RefusesBy (IsPutAt Standing.State M.outbox_of control.old.history) request why self.old result self.new }
+        ensures error { UnlessShut request.wants_answer result self.new }
+    {
+        let Refused::Error(name) = why else {
+            return Err(AnswerError::NoMemory);
+        };
+        if !request.wants_answer {
+            return Ok(());
+        }
+        let bytes = self.fault_bytes(context.alloc, request, name)?;
+        self.put_placed(context, control, Standing::State, bytes)
     }
 
     /// Answers a call with a text, if its caller waits for an answer.
@@ -87,21 +131,22 @@ impl<B: BusBrand, M: Mailbox> Peer<B, M> {
         self.answer(context, request, Body::Text(text))
     }
 
-    /// Answers a call with an array of texts, if its caller waits for an answer.
+    /// Answers a call about names with an array of texts, as `answer_placed` does.
     ///
     /// # Errors
     ///
-    /// As those of `answer`.
-    pub(crate) fn answer_texts<W: Wait, R: Wait + Drop>(
+    /// As those of `answer_placed`.
+    pub(crate) fn answer_texts_placed<W: Wait, R: Wait + Drop>(
         &mut self,
         context: &Context<'_, B, M, W, R>,
+        control: &mut Control<B, M, R>,
         request: Request,
         texts: &[&str],
     ) -> Result<(), AnswerError>
-        ensures answer { RepliesTexts request (lent_texts texts.now) self.old result self.new }
+        ensures answer { RepliesTextsBy (IsPutAt Standing.State M.outbox_of control.old.history) request (lent_texts texts.now) self.old result self.new }
         ensures error { UnlessShut request.wants_answer result self.new }
     {
-        self.answer(context, request, Body::Texts(texts))
+        self.answer_placed(context, control, request, Body::Texts(texts))
     }
 
     /// Answers a call with the bus's own name alone, if its caller waits for an answer.
@@ -117,23 +162,46 @@ impl<B: BusBrand, M: Mailbox> Peer<B, M> {
         ensures answer { RepliesTexts request (bus_name ∷ []) self.old result self.new }
         ensures error { UnlessShut request.wants_answer result self.new }
     {
-        self.answer_texts(context, request, [BUS_NAME].as_slice())
+        self.answer(context, request, Body::Texts([BUS_NAME].as_slice()))
     }
 
-    // Puts an error with this serial, or the error NoMemory in its place.
-    fn put_error<W: Wait, R: Wait + Drop>(
+    /// The bytes of the answer to a call, or of the error NoMemory in its place, with the next serial.
+    ///
+    /// # Errors
+    ///
+    /// `NoMemory` if neither could be built.
+    pub(crate) fn reply_bytes(
         &mut self,
-        context: &Context<'_, B, M, W, R>,
+        alloc: Global,
         request: Request,
-        serial: u32,
-        name: ErrorName,
-    ) -> Result<(), AnswerError>
-        ensures put { IsPut (IsEither (fault_with serial (name_of self.old) request name) (fault_with serial (name_of self.old) request ErrorName.NoMemory)) self.old result self.new }
-        ensures slow { SlowIfShut result self.new }
+        body: Body<'_>,
+    ) -> Result<Bytes, AnswerError>
+        ensures built { IfOk result (IsEither (reply_with self.old.serial (name_of self.old) request body.entry) (fault_asked self.old request ErrorName.NoMemory)) }
+        ensures error { IfErr result (λ error. error ≡ AnswerError.NoMemory) }
+        ensures same { self.new ≡ after_serial self.old }
     {
+        let serial = self.serials.take();
         let to = Some(self.name.as_str());
-        let bytes = error_bytes(context.alloc, serial, to, request, name)?;
-        self.put(context, bytes)
+        match reply(alloc, serial, to, request.serial, body) {
+            Ok(bytes) => Ok(bytes),
+            Err(_) => error_bytes(alloc, serial, to, request, ErrorName::NoMemory),
+        }
+    }
+
+    // The bytes of the error that a call is answered with, or of the error NoMemory in its place, with the next serial.
+    fn fault_bytes(
+        &mut self,
+        alloc: Global,
+        request: Request,
+        name: ErrorName,
+    ) -> Result<Bytes, AnswerError>
+        ensures built { IfOk result (IsEither (fault_asked self.old request name) (fault_asked self.old request ErrorName.NoMemory)) }
+        ensures error { IfErr result (λ error. error ≡ AnswerError.NoMemory) }
+        ensures same { self.new ≡ after_serial self.old }
+    {
+        let serial = self.serials.take();
+        let to = Some(self.name.as_str());
+        error_bytes(alloc, serial, to, request, name)
     }
 
     /// Puts a message to the client, held with what its pass holds.
@@ -149,6 +217,41 @@ impl<B: BusBrand, M: Mailbox> Peer<B, M> {
         match self.pass.message(context.alloc, bytes) {
             Ok(message) => self.own.put(context.rt, message),
             Err(_) => Err(AnswerError::NoMemory),
+        }
+    }
+
+    /// Puts a message that tells of names to the client, under the lock of the bus, at its place in the history, held with what its
+    /// pass holds.
+    ///
+    /// # Errors
+    ///
+    /// `Slow`, and `NoMemory` if memory was refused or the bus has ended. Nothing is put then.
+    pub(crate) fn put_placed<W: Wait, R: Wait + Drop>(
+        &mut self,
+        context: &Context<'_, B, M, W, R>,
+        control: &mut Control<B, M, R>,
+        at: Standing,
+        bytes: Bytes,
+    ) -> Result<(), AnswerError>
+        ensures put { IsPutAt at M.outbox_of control.old.history (λ put. put ≡ bytes) self.old result self.new }
+        ensures slow { SlowIfShut result self.new }
+        ensures control { control.new ≡ control.old }
+    {
+        context.bus.show(context.rt, context.alloc, None, &bytes);
+        let sent = control.send_to(
+            context.rt,
+            context.alloc,
+            &mut self.pass,
+            at,
+            Source::Bus,
+            self.name.as_str(),
+            &bytes,
+        );
+        match sent {
+            Ok(Sent::Put(_)) => Ok(()),
+            // An outbox that has no room is shut.
+            Ok(Sent::Full(_)) if self.own.is_shut() => Err(AnswerError::Slow),
+            Ok(_) | Err(_) => Err(AnswerError::NoMemory),
         }
     }
 }

@@ -1,8 +1,10 @@
 // How a client joins the bus, and what Hello is answered.
 
 ghost use Rattle.std.specs.Prelude.{◌≡◌, IfErr};
-ghost use Rattle.peers.specs.Answers.{IsShutIf, TurnsAwayIf, UnlessShut};
+ghost use Rattle.peers.specs.Answers.{IsPutAt, IsShutIf, TurnsAwayIf, UnlessShut};
 ghost use Rattle.peers.specs.Arrival.{Joins, Registers};
+ghost use Rattle.peers.specs.PeerState.{name_of};
+ghost use Rattle.peers.specs.Queries.{RepliesTextBy};
 
 use crate::answers::error_bytes;
 use crate::context::Context;
@@ -14,7 +16,7 @@ use crate::request::Request;
 use crate::serial::Serials;
 use bus_messages::{Body, ErrorName, UniqueName};
 use outbox::Item;
-use router::{BusBrand, Control, Mailbox, Pass, RouteLists};
+use router::{BusBrand, Control, Mailbox, Pass, RouteLists, Standing};
 use std::sync::Wait;
 
 /// Connects a pass, whose messages go to the client's outbox, under the bus's lock.
@@ -82,14 +84,32 @@ impl<B: BusBrand, M: Mailbox> Peer<B, M> {
         control: &mut Control<B, M, R>,
         request: Request,
     ) -> Result<(), AnswerError>
-        ensures registered { Registers M.outbox_of request self.old result self.new }
+        ensures registered { Registers M.outbox_of control.old.history request self.old result self.new }
         ensures error { UnlessShut request.wants_answer result self.new }
     {
-        let name = UniqueName::new(self.pass.connection());
         self.pass.hold(context.alloc);
-        let answered = self.answer_text(context, request, name.as_str());
+        let answered = self.answer_hello(context, control, request);
         let announced = self.announce_arrival(context, lists, control);
         self.pass.release();
         answered.and(announced)
+    }
+
+    // Answers Hello with the client's name, at the place of the command that has made its connection.
+    fn answer_hello<W: Wait, R: Wait + Drop>(
+        &mut self,
+        context: &Context<'_, B, M, W, R>,
+        control: &mut Control<B, M, R>,
+        request: Request,
+    ) -> Result<(), AnswerError>
+        ensures answer { RepliesTextBy (IsPutAt Standing.Last M.outbox_of control.old.history) request (name_of self.old) self.old result self.new }
+        ensures error { UnlessShut request.wants_answer result self.new }
+        ensures control { control.new ≡ control.old }
+    {
+        if !request.wants_answer {
+            return Ok(());
+        }
+        let name = UniqueName::new(self.pass.connection());
+        let bytes = self.reply_bytes(context.alloc, request, Body::Text(name.as_str()))?;
+        self.put_placed(context, control, Standing::Last, bytes)
     }
 }

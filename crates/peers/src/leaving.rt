@@ -114,9 +114,10 @@ impl<B: BusBrand, M: Mailbox> Peer<B, M> {
     ) -> Leaving
         ensures { ClosesPass M.outbox_of self.old result self.new }
     {
-        let mut control = context.bus.control(context.rt);
+        let mut guard = context.bus.control(context.rt);
+        let control = &mut *guard;
         let closed = control.close(&mut self.pass);
-        self.announce_closed(context, lists, &mut control, closed)
+        self.announce_closed(context, lists, control, closed)
     }
 
     // Announces that the client's unique name is gone, if its pass was closed.
@@ -127,7 +128,7 @@ impl<B: BusBrand, M: Mailbox> Peer<B, M> {
         control: &mut Control<B, M, R>,
         closed: Result<Reply, BusError>,
     ) -> Leaving
-        ensures { IsClosing M.outbox_of closed self.old result self.new }
+        ensures { IsClosing M.outbox_of control.old.history closed self.old result self.new }
     {
         match closed {
             Ok(_) => {

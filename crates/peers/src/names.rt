@@ -1,7 +1,7 @@
 // The calls that change who owns a name.
 
 ghost use Rattle.std.specs.Prelude.{◌≡◌, IfErr};
-ghost use Rattle.peers.specs.Answers.{UnlessShut};
+ghost use Rattle.peers.specs.Answers.{IsPutAt, UnlessShut};
 ghost use Rattle.peers.specs.NameRows.{RequestsName, ReleasesName, TellsNamed};
 ghost use Rattle.peers.specs.OwnerChanges.{ChangesOwner, ChangesAhead};
 
@@ -13,7 +13,7 @@ use crate::refused::Refused;
 use crate::request::Request;
 use bus_messages::{Body, ErrorName};
 use owners::{Change, WellKnown};
-use router::{BusBrand, BusError, Control, Mailbox, NameCall, Reply, RouteLists};
+use router::{BusBrand, BusError, Control, Mailbox, NameCall, Reply, RouteLists, Standing};
 use std::mem;
 use std::sync::Wait;
 
@@ -35,14 +35,15 @@ impl<B: BusBrand, M: Mailbox> Peer<B, M> {
         if let Err(why) = self.holdings.admit_name(context.shares, &name) {
             return self.refuse(context, request, why);
         }
-        let mut control = context.bus.control(context.rt);
+        let mut guard = context.bus.control(context.rt);
+        let control = &mut *guard;
         let call = NameCall::Request(name.copy(), flags);
         // What the client holds stands aside meanwhile, with the room that was made for the name.
         let mut holdings = mem::replace(&mut self.holdings, Holdings::new(context.alloc));
-        let (asked, announced) = self.change_owner(context, lists, &mut control, &call);
+        let (asked, announced) = self.change_owner(context, lists, control, &call);
         holdings.note_request(&name, &asked);
         self.holdings = holdings;
-        let answered = self.answer_named(context, request, asked);
+        let answered = self.answer_named(context, control, request, asked);
         announced.and(answered)
     }
 
@@ -59,11 +60,12 @@ impl<B: BusBrand, M: Mailbox> Peer<B, M> {
         let Ok(name) = WellKnown::read(name) else {
             return self.refuse(context, request, Refused::Error(ErrorName::InvalidArgs));
         };
-        let mut control = context.bus.control(context.rt);
+        let mut guard = context.bus.control(context.rt);
+        let control = &mut *guard;
         let call = NameCall::Release(name.copy());
-        let (asked, announced) = self.change_owner(context, lists, &mut control, &call);
+        let (asked, announced) = self.change_owner(context, lists, control, &call);
         self.holdings.note_release(&name, &asked);
-        let answered = self.answer_named(context, request, asked);
+        let answered = self.answer_named(context, control, request, asked);
         announced.and(answered)
     }
 
@@ -117,18 +119,20 @@ impl<B: BusBrand, M: Mailbox> Peer<B, M> {
     fn answer_named<W: Wait, R: Wait + Drop>(
         &mut self,
         context: &Context<'_, B, M, W, R>,
+        control: &mut Control<B, M, R>,
         request: Request,
         reply: Result<Reply, BusError>,
     ) -> Result<(), AnswerError>
-        ensures row { TellsNamed request reply self.old result self.new }
+        ensures row { TellsNamed (IsPutAt Standing.State M.outbox_of control.old.history) request reply self.old result self.new }
         ensures error { UnlessShut request.wants_answer result self.new }
     {
         match reply {
             Ok(Reply::Name(named)) => {
-                self.answer(context, request, Body::Number(named.answer.number()))
+                let number = Body::Number(named.answer.number());
+                self.answer_placed(context, control, request, number)
             }
             Ok(_) => Ok(()),
-            Err(error) => self.refuse(context, request, Refused::from(error)),
+            Err(error) => self.refuse_placed(context, control, request, Refused::from(error)),
         }
     }
 }

@@ -1,9 +1,8 @@
 // Who owns a name that a client asks about.
 
-ghost use Rattle.std.specs.Prelude.{◌≡◌};
+ghost use Rattle.std.specs.Prelude.{◌≡◌, MatchResult};
 ghost use Rattle.router.specs.History.{after};
-ghost use Rattle.peers.specs.Asked.{IsAsked, IsOwnerOf};
-ghost use Rattle.peers.specs.Queues.{TellsOwner};
+ghost use Rattle.peers.specs.Asked.{HasLooked, IsAsked, IsOwnerOf, owner_in};
 ghost use Rattle.peers.specs.Passing.{HasSeenMore, with_pass};
 
 use crate::identity::BUS_NAME;
@@ -11,8 +10,9 @@ use crate::peer::Peer;
 use crate::refused::Refused;
 use bus_messages::{ErrorName, UniqueName};
 use owners::WellKnown;
-use router::{BusBrand, Mailbox};
+use router::{BusBrand, Control, Mailbox};
 use signature::check_bus_name;
+use std::sync::Wait;
 
 /// A name's owner. The bus owns its own name, and each connected unique name owns itself.
 #[derive(Clone, Copy, Debug, PartialEq, Eq)]
@@ -49,38 +49,43 @@ impl AskedName {
 }
 
 impl<B: BusBrand, M: Mailbox> Peer<B, M> {
-    /// The owner of the name that a text is, or why that can't be told.
-    pub(crate) fn owner_named(&mut self, text: &str) -> Result<Option<Owner>, Refused>
+    /// The owner of the name that a text is, in what is published, which the pass has then seen; or why that can't be told.
+    pub(crate) fn owner_named<R: Wait + Drop>(
+        &mut self,
+        control: &Control<B, M, R>,
+        text: &str,
+    ) -> Result<Option<Owner>, Refused>
         ensures owner { IsOwnerOf (after self.new.pass.seen) text.now result }
+        ensures seen { MatchResult result (λ _. self.new.pass.seen ≡ control.now.history) (λ why. HasLooked why control.now.history self.new.pass) }
         ensures later { HasSeenMore self.old.pass self.new.pass }
         ensures same { self.new ≡ with_pass self.old self.new.pass }
     {
-        match AskedName::read(text) {
-            Ok(name) => self.owner_of(name),
-            Err(why) => Err(why),
-        }
+        control.tell(&mut self.pass)?;
+        let name = AskedName::read(text)?;
+        Ok(owner_of(control, &name))
     }
+}
 
-    /// The owner of a name in what the pass has then seen.
-    fn owner_of(&mut self, name: AskedName) -> Result<Option<Owner>, Refused>
-        ensures owner { TellsOwner (after self.new.pass.seen) name result }
-        ensures later { HasSeenMore self.old.pass self.new.pass }
-        ensures same { self.new ≡ with_pass self.old self.new.pass }
-    {
-        match name {
-            AskedName::Bus => Ok(Some(Owner::Bus)),
-            AskedName::Unique(None) => Ok(None),
-            AskedName::Unique(Some(number)) => {
-                if self.pass.is_connected(number)? {
-                    Ok(Some(Owner::Connection(number)))
-                } else {
-                    Ok(None)
-                }
+// The owner of a name in what is published.
+fn owner_of<B: BusBrand, M: Mailbox, R: Wait + Drop>(
+    control: &Control<B, M, R>,
+    name: &AskedName,
+) -> Option<Owner>
+    ensures { result ≡ owner_in (after control.now.history) name.now }
+{
+    match name {
+        AskedName::Bus => Some(Owner::Bus),
+        AskedName::Unique(None) => None,
+        AskedName::Unique(Some(number)) => {
+            if control.is_connected(*number) {
+                Some(Owner::Connection(*number))
+            } else {
+                None
             }
-            AskedName::WellKnown(name) => match self.pass.owner_of(&name)? {
-                Some(number) => Ok(Some(Owner::Connection(number))),
-                None => Ok(None),
-            },
         }
+        AskedName::WellKnown(name) => match control.primary_owner(name) {
+            Some(number) => Some(Owner::Connection(number)),
+            None => None,
+        },
     }
 }

@@ -1,8 +1,8 @@
 // What the bus tells whoever looks into it (D-Bus has no standard for these calls; they are dbus-daemon's).
 
 ghost use Rattle.std.specs.Prelude.{◌≡◌};
-ghost use Rattle.peers.specs.Answers.{UnlessShut};
-ghost use Rattle.peers.specs.Stats.{AreFacts, AreTextLists, AnswersInsight, AnswersInsightLater};
+ghost use Rattle.peers.specs.Answers.{IsPutAt, UnlessShut};
+ghost use Rattle.peers.specs.Stats.{AreFacts, AreTextLists, AnswersInsight, AnswersInsightBy, AnswersInsightLater};
 
 use crate::context::Context;
 use crate::error::AnswerError;
@@ -12,7 +12,7 @@ use crate::refused::Refused;
 use crate::request::Request;
 use bus_messages::{Body, ErrorName, Fact, NamedFact, TextList, UniqueName};
 use outbox::{Counts, Room};
-use router::{Bus, BusBrand, Control, Mailbox};
+use router::{Bus, BusBrand, Control, Mailbox, Standing};
 use rule_text::rule_text;
 use std::alloc::{AllocError, Global};
 use std::sync::Wait;
@@ -191,22 +191,23 @@ impl<B: BusBrand, M: Mailbox> Peer<B, M> {
         request: Request,
         name: &str,
     ) -> Result<(), AnswerError>
-        ensures row { AnswersInsightLater AreFacts request self.old result self.new }
+        ensures row { AnswersInsightLater M.outbox_of AreFacts request self.old result self.new }
         ensures error { UnlessShut request.wants_answer result self.new }
     {
-        let control = context.bus.control(context.rt);
-        let owner = self.owner_named(name);
-        self.answer_connection_stats(context, &control, request, owner)
+        let mut guard = context.bus.control(context.rt);
+        let control = &mut *guard;
+        let owner = self.owner_named(control, name);
+        self.answer_connection_stats(context, control, request, owner)
     }
 
     fn answer_connection_stats<W: Wait, R: Wait + Drop>(
         &mut self,
         context: &Context<'_, B, M, W, R>,
-        control: &Control<B, M, R>,
+        control: &mut Control<B, M, R>,
         request: Request,
         owner: Result<Option<Owner>, Refused>,
     ) -> Result<(), AnswerError>
-        ensures row { AnswersInsight AreFacts request self.old result self.new }
+        ensures row { AnswersInsightBy (IsPutAt Standing.State M.outbox_of control.old.history) AreFacts request self.old result self.new }
         ensures error { UnlessShut request.wants_answer result self.new }
     {
         match self.look_at(context.alloc, control, owner) {
@@ -216,9 +217,9 @@ impl<B: BusBrand, M: Mailbox> Peer<B, M> {
                     name: "UniqueName",
                     fact: Fact::Text(name.as_str()),
                 });
-                self.answer(context, request, Body::Facts(&facts))
+                self.answer_placed(context, control, request, Body::Facts(&facts))
             }
-            Err(why) => self.refuse(context, request, why),
+            Err(why) => self.refuse_placed(context, control, request, why),
         }
     }
 

@@ -8,7 +8,6 @@ ghost use Rattle.peers.specs.Passing.{HasSeenMore, with_pass};
 ghost use Rattle.peers.specs.Subjects.{IsSubject};
 
 use crate::dispatch::is_for_bus;
-use crate::owner::Owner;
 use crate::peer::Peer;
 use match_rule::arg0_of;
 use message_view::View;
@@ -27,8 +26,8 @@ impl<B: BusBrand, M: Mailbox> Peer<B, M> {
         }
         let caller = self.connection();
         let name = arg0_of(view)?;
-        match self.owner_named(name) {
-            Ok(Some(Owner::Connection(number))) if number != caller => Some(number),
+        match self.pass.owner_of(name) {
+            Ok(Some(number)) if number != caller => Some(number),
             _ => None,
         }
     }

@@ -7,6 +7,7 @@ pub use Rattle.passes.specs.Connections
 pub use Rattle.passes.specs.Does
 pub use Rattle.passes.specs.History
 pub use Rattle.passes.specs.Names
+pub use Rattle.passes.specs.NameOwners
 pub use Rattle.passes.specs.Recipients
 pub use Rattle.passes.specs.State
 pub use Rattle.passes.specs.Command

@@ -60,7 +60,7 @@ module _ {M : Type 0} where
   Takes outbox_of shares message outbox None result None = IsErr result
   Takes outbox_of shares message outbox None result (Some w) =
       (v : PeerState M) × (request : Request) × (registered : Result (Unit {0}) AnswerError)
-      × IsNewcomer outbox_of v × (outbox ≡ Some v.own.outbox) × ((m : Message) → Valid message m → (is_hello m ≡ true) × IsRequestOf m request) × Registers outbox_of request v registered w × (result ≡ outcome_of registered)
+      × IsNewcomer outbox_of v × (outbox ≡ Some v.own.outbox) × ((m : Message) → Valid message m → (is_hello m ≡ true) × IsRequestOf m request) × Registers outbox_of v.pass.seen request v registered w × (result ≡ outcome_of registered)
 
   -- this message comes next in the client's bytes; it is handled, and then taken from them
   abbrev pub HandlesNext : (M → OutboxId) → Shares → List ℕ → SessionState M → SessionState M → Type 0

@@ -61,12 +61,13 @@ fn let_in<B: BusBrand, M: Mailbox, W: Wait, R: Wait + Drop>(
     ensures slow { IfOk result (λ made. SlowIfShut made.1 made.0) }
     ensures outbox { IfErr result (λ refused. refused.1.outbox ≡ own.outbox) }
 {
-    let mut control = context.bus.control(context.rt);
-    match join(&mut control, &mut pass, &mut own) {
+    let mut guard = context.bus.control(context.rt);
+    let control = &mut *guard;
+    match join(control, &mut pass, &mut own) {
         Ok(()) => {
             let mut peer = Peer::new(context.alloc, pass, own, identity);
             peer.show_first(context, view);
-            let registered = peer.register(context, lists, &mut control, Request::of(view));
+            let registered = peer.register(context, lists, control, Request::of(view));
             Ok((peer, registered))
         }
         Err(why) => {

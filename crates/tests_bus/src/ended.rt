@@ -2,7 +2,7 @@
 
 ghost use Rattle.std.specs.Prelude.{◌≡◌};
 
-use crate::fixture::{expect_recipients, name_a, new_bus, read_message, s1_bytes};
+use crate::fixture::{expect_recipients, new_bus, read_message, s1_bytes};
 use crate::letters::connect;
 use published::{BusBrand, Opened};
 use router::{BusError, Pass, PlainMailbox, RouteLists, Source};
@@ -25,7 +25,7 @@ fn look_after_the_end<B: BusBrand, R: Wait + Abort>(
     requires { opened ≡ B.book }
 {
     let mut pass = survivor::<B, R>(rt, alloc, opened);
-    expect_end(rt, alloc, &mut pass);
+    expect_end(rt, &mut pass);
     forget(pass);
 }
 
@@ -44,7 +44,7 @@ fn survivor<B: BusBrand, R: Wait + Abort>(
 }
 
 // Each look at the published state is Closed.
-fn expect_end<B: BusBrand, R: Abort>(rt: &R, alloc: Global, pass: &mut Pass<B, PlainMailbox>) {
+fn expect_end<B: BusBrand, R: Abort>(rt: &R, pass: &mut Pass<B, PlainMailbox>) {
     let bytes = s1_bytes();
     let view = read_message(rt, bytes.as_slice());
     let found = pass.recipients(Source::Bus, &view);
@@ -52,9 +52,5 @@ fn expect_end<B: BusBrand, R: Abort>(rt: &R, alloc: Global, pass: &mut Pass<B, P
     let mut lists = RouteLists::new();
     let listed = pass.recipients_into(Source::Bus, &view, &mut lists);
     assert_eq!(rt; listed, Err(BusError::Closed));
-    let name = name_a(rt);
-    assert_eq!(rt; pass.owner_of(&name), Err(BusError::Closed));
-    let queued = pass.queued_owners(alloc, &name);
-    assert_eq!(rt; queued.err(), Some(BusError::Closed));
-    assert_eq!(rt; pass.names(alloc).err(), Some(BusError::Closed));
+    assert_eq!(rt; pass.owner_of("com.example.A"), Err(BusError::Closed));
 }

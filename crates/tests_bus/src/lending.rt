@@ -43,7 +43,7 @@ fn lend_in_turn<B: BusBrand, R: Wait + Abort>(rt: &R, alloc: Global, opened: Ope
     // What it was lent goes back to the bus with it.
     bus.take_back(rt, second);
     first.lend(bus.reader(rt).expect(rt, "what was given back"));
-    assert_eq!(rt; first.is_connected(2), Ok(false));
+    assert_eq!(rt; first.owner_of(":1.2"), Ok(None));
     forget(first);
     forget(bus);
 }
@@ -62,13 +62,13 @@ fn connect<B: BusBrand, R: Wait + Abort>(
 }
 
 fn expect_both<B: BusBrand, R: Abort>(rt: &R, pass: &mut Pass<B, PlainMailbox>) {
-    assert_eq!(rt; pass.is_connected(1), Ok(true));
-    assert_eq!(rt; pass.is_connected(2), Ok(true));
+    assert_eq!(rt; pass.owner_of(":1.1"), Ok(Some(1)));
+    assert_eq!(rt; pass.owner_of(":1.2"), Ok(Some(2)));
 }
 
 fn expect_closed<B: BusBrand, R: Abort>(rt: &R, pass: &mut Pass<B, PlainMailbox>) {
     assert!(rt; !pass.has_reader());
-    assert_eq!(rt; pass.is_connected(1), Err(BusError::Closed));
+    assert_eq!(rt; pass.owner_of(":1.1"), Err(BusError::Closed));
 }
 
 // There is no place for a further reader.

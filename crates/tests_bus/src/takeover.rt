@@ -8,7 +8,7 @@ use crate::outboxes::take_all;
 use crate::workers::expect_by_workers;
 use owners::WellKnown;
 use published::{BusBrand, Opened};
-use router::{Pass, PlainMailbox, Sent};
+use router::{Bus, Control, Pass, PlainMailbox, Sent};
 use routing::Mailbox;
 use std::alloc::Global;
 use std::marker::Brand;
@@ -42,7 +42,7 @@ fn take_over<B: BusBrand, R: Wait + Threads + Abort>(
     own(rt, &bus, &mut second_pass, &name, 2, Some(1), 2);
     expect_each_way(rt, &mut one, &[]);
     expect_each_way(rt, &mut second_pass, &[3]);
-    look_up(rt, alloc, &mut one, &name);
+    look_up(rt, alloc, &bus, &mut one, &name);
     send_s1(rt, alloc, &bus, &mut one, "com.example.A", Sent::Put(2));
     expect_s1(rt, alloc, &mailbox);
     close(rt, &bus, &mut second_pass);
@@ -67,48 +67,44 @@ fn expect_each_way<B: BusBrand, R: Wait + Threads + Abort>(
 }
 
 // The second of three connections owns the one name, and the first waits for it.
-fn look_up<B: BusBrand, R: Abort>(
+fn look_up<B: BusBrand, R: Wait + Abort>(
     rt: &R,
     alloc: Global,
+    bus: &Bus<B, PlainMailbox, &R>,
     pass: &mut Pass<B, PlainMailbox>,
     name: &WellKnown,
 ) {
-    expect_owner(rt, pass, name, Some(2));
-    expect_queue(rt, alloc, pass, name, &[2, 1]);
-    expect_names(rt, alloc, pass, name, &[1, 2, 3]);
-}
-
-fn expect_owner<B: BusBrand, R: Abort>(
-    rt: &R,
-    pass: &mut Pass<B, PlainMailbox>,
-    name: &WellKnown,
-    wanted: Option<u64>,
-) {
-    assert_eq!(rt; pass.owner_of(name), Ok(wanted));
+    assert_eq!(rt; pass.owner_of(name.as_str()), Ok(Some(2)));
+    let control = bus.control(rt);
+    assert_eq!(rt; control.primary_owner(name), Some(2));
+    expect_queue(rt, alloc, &control, name, &[2, 1]);
+    expect_names(rt, alloc, &control, name, &[1, 2, 3]);
 }
 
 // These have a claim on the name, the owner first.
-fn expect_queue<B: BusBrand, R: Abort>(
+fn expect_queue<B: BusBrand, R: Wait + Abort>(
     rt: &R,
     alloc: Global,
-    pass: &mut Pass<B, PlainMailbox>,
+    control: &Control<B, PlainMailbox, &R>,
     name: &WellKnown,
     wanted: &[u64],
 ) {
-    let queue = pass.queued_owners(alloc, name).expect(rt, "the queue");
+    let queue = control.queued_owners(alloc, name).expect(rt, "the queue");
     assert_eq!(rt; queue.as_slice(), wanted);
 }
 
 // These are connected, and the name is the only one that is owned.
-fn expect_names<B: BusBrand, R: Abort>(
+fn expect_names<B: BusBrand, R: Wait + Abort>(
     rt: &R,
     alloc: Global,
-    pass: &mut Pass<B, PlainMailbox>,
+    control: &Control<B, PlainMailbox, &R>,
     name: &WellKnown,
     connected: &[u64],
 ) {
-    let (numbers, names) = pass.names(alloc).expect(rt, "the names");
-    assert_eq!(rt; numbers.as_slice(), connected);
+    assert_eq!(rt; control.numbers().as_slice(), connected);
+    assert!(rt; control.is_connected(3));
+    assert!(rt; !control.is_connected(4));
+    let names = control.names(alloc).expect(rt, "the names");
     assert_eq!(rt; names.len(), 1);
     assert!(rt; names[0] == *name);
 }

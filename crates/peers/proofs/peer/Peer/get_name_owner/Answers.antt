@@ -1,20 +1,19 @@
-use Rattle.std.proofs.Common.{Ok, Some, Option, ◌∙◌, ap, subst}
-use Rattle.signature.specs.Name.{bus_name}
-use Rattle.router.specs.History.{after}
-use Rattle.peers.specs.Asked.{IsOwnerOf}
-use Rattle.peers.specs.PeerState.{PeerState}
-use Rattle.peers.specs.Queries.{RepliesText}
-use Rattle.peers.specs.declared.owner.Owner.{Owner}
-use Rattle.peers.specs.declared.owner.Owner.TheVariants.{Bus}
+use Rattle.std.proofs.Common.{Ok, Err, Some, None}
+use Rattle.peers.specs.Queries.{NamesOwner}
+use Rattle.peers.proofs.Lists.{tells_owner, tells_none}
 use Rattle.peers.proofs.peer.Peer.get_name_owner.Goals as goal
 
-pub returns-in-Ok-Some-Bus-clause-row : goal.returns-in-Ok-Some-Bus-clause-row
-returns-in-Ok-Some-Bus-clause-row g c =
-    let O : Option Owner → Type 0 = λ o. IsOwnerOf (after c.owner_named.new.self.pass.seen) c.args.name.now (Ok o) in
-    let R : PeerState g.row.M.Denot → Type 0 = λ s. RepliesText c.args.request bus_name s c.answer_text.result c.answer_text.new.self in (
-      c.owner_named.new.self.pass,
-      Ok (Some Bus),
-      c.owner_named.ensures.later,
-      subst O (c.in-Ok-Some-Bus.field-0-is ∙ ap Some c.in-Ok-Some-Bus.field-0-0-is) c.in-Ok-Some-Bus.ensures.owner,
-      subst R c.owner_named.ensures.same c.answer_text.ensures.answer,
-    )
+pub returns-in-Ok-Some-clause-row : goal.returns-in-Ok-Some-clause-row
+returns-in-Ok-Some-clause-row g c =
+    tells_owner g.M.Mailbox.outbox_of c.deref_mut.result.now.history c.args.name.now (NamesOwner c.args.request) (Ok (Some c.in-Ok-Some.owner)) c.args.self.now c.owner_named.new.self c.answer_owner.new.self c.answer_owner.result
+    c.owner_named.ensures.same c.owner_named.ensures.later c.in-Ok-Some.ensures.owner c.in-Ok-Some.ensures.seen c.answer_owner.ensures.row
+
+pub returns-in-Ok-None-clause-row : goal.returns-in-Ok-None-clause-row
+returns-in-Ok-None-clause-row g c =
+    tells_owner g.M.Mailbox.outbox_of c.deref_mut.result.now.history c.args.name.now (NamesOwner c.args.request) (Ok None) c.args.self.now c.owner_named.new.self c.refuse_placed.new.self c.refuse_placed.result
+    c.owner_named.ensures.same c.owner_named.ensures.later c.in-Ok-None.ensures.owner c.in-Ok-None.ensures.seen c.refuse_placed.ensures.answer
+
+pub returns-in-Err-clause-row : goal.returns-in-Err-clause-row
+returns-in-Err-clause-row g c =
+    tells_none g.M.Mailbox.outbox_of c.deref_mut.result.now.history c.args.name.now (NamesOwner c.args.request) c.in-Err.why c.args.self.now c.owner_named.new.self c.refuse_placed-in-Err.new.self c.refuse_placed-in-Err.result
+    c.owner_named.ensures.same c.owner_named.ensures.later c.in-Err.ensures.owner c.in-Err.ensures.seen (λ put other h. h) c.refuse_placed-in-Err.ensures.answer
