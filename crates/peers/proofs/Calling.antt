@@ -41,7 +41,8 @@ module _ {M : Type 0} where
       let N : ℕ → Type 0 = λ k. IsTold standings.Apart outbox_of (gone_asked v.serial k reply_to) (unique_name k) u.pass result w.pass in
       let P : PeerState M → Type 0 = λ x. IsTold standings.Apart outbox_of (gone_asked v.serial caller reply_to) (unique_name caller) x.pass result w.pass in (
         result,
-        (same ∙ ap (λ (x : PeerState M). with_pass x w.pass) is, subst P is (subst N e (sent_as (gone_asked v.serial m reply_to) (gone_built v.serial m reply_to built (subst (B v.serial) t (subst (λ k. B k to) s b)))))),
+        same ∙ ap (λ (x : PeerState M). with_pass x w.pass) is,
+        subst P is (subst N e (sent_as (gone_asked v.serial m reply_to) (gone_built v.serial m reply_to built (subst (B v.serial) t (subst (λ k. B k to) s b))))),
       )
 
   -- one more was told
@@ -62,7 +63,7 @@ module _ {M : Type 0} where
 
   many_close_none : (outbox_of : M → OutboxId) (n : ℕ) (v w : PeerState M) → AnswersMany outbox_of n v w → w.pass.is_closed ≡ v.pass.is_closed
   many_close_none outbox_of zero v w same = ap (λ (p : PeerState M). p.pass.is_closed) same
-  many_close_none outbox_of (suc n) v w (mid, caller, serial, many, (outcome, (made, is))) =
+  many_close_none outbox_of (suc n) v w (mid, caller, serial, many, (outcome, made, is)) =
       told_closes_none outbox_of (gone_asked mid.serial caller serial) (unique_name caller) mid.pass w.pass outcome is ∙ many_close_none outbox_of n v mid many
 
   -- who tells those that wait closes no pass and opens none

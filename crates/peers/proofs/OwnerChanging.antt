@@ -114,7 +114,7 @@ module _ {M : Type 0} where
   -- what a peer holds has no part in a change
   told_holding : (standing : Standing) (outbox_of : M → OutboxId) (history : List (Command M)) (held : HoldingsState) (asked : Asked) (to : List ℕ) (v w : PeerState M) (result : Result (Unit {0}) AnswerError) → HasTold standing outbox_of history asked to v result w
       → HasTold standing outbox_of history asked to (record v { holdings = held }) result (record w { holdings = held })
-  told_holding standing outbox_of history held asked to v w result (made, told) = (ap (λ (s : PeerState M). record s { holdings = held }) made, told)
+  told_holding standing outbox_of history held asked to v w result (made, told, here) = (ap (λ (s : PeerState M). record s { holdings = held }) made, told, here)
 
   owner_holding : (standing : Standing) (outbox_of : M → OutboxId) (history : List (Command M)) (held : HoldingsState) (member name : List ℕ) (owner : Option ℕ) (v w : PeerState M) (result : Result (Unit {0}) AnswerError) → TellsOwner standing outbox_of history member name owner v result w
       → TellsOwner standing outbox_of history member name owner (record v { holdings = held }) result (record w { holdings = held })
@@ -123,14 +123,14 @@ module _ {M : Type 0} where
 
   announced_holding : (outbox_of : M → OutboxId) (history : List (Command M)) (held : HoldingsState) (change : Change) (v w : PeerState M) (result : Result (Unit {0}) AnswerError) → Announces outbox_of history change v result w
       → Announces outbox_of history change (record v { holdings = held }) result (record w { holdings = held })
-  announced_holding outbox_of history held change v w result (mid, next, lost, changed, acquired, a, (made, signal), c, is) = (
+  announced_holding outbox_of history held change v w result (mid, next, lost, changed, acquired, a, (made, signal, here), c, is) = (
     record mid { holdings = held },
     record next { holdings = held },
     lost,
     changed,
     acquired,
     owner_holding standings.Next outbox_of history held _ change.name change.old v mid lost a,
-    (ap (λ (s : PeerState M). record s { holdings = held }) made, signal),
+    (ap (λ (s : PeerState M). record s { holdings = held }) made, signal, here),
     owner_holding standings.Next outbox_of history held _ change.name change.new next w acquired c,
     is,
   )
@@ -151,7 +151,7 @@ module _ {M : Type 0} where
   changed outbox_of request call change u v mid w before next asked held announced answered result is c h t e =
       let P : PeerState M → Type 0 = λ s. ChangesOwner outbox_of call s before asked announced mid next in
       let Q : HoldingsState → Type 0 = λ x. TellsNamed (IsPutAt standings.State outbox_of next.history) request asked (record mid { holdings = x }) answered w in
-      (asked, mid, announced, answered, (before, next, subst P is c, subst Q h t), e)
+      (asked, mid, announced, answered, (before, next, (subst P is c, subst Q h t)), e)
 
   -- of a peer whose holdings stood aside meanwhile
   pub changed_aside : (outbox_of : M → OutboxId) (request : Request) (call : NameCall) (change : Result Reply BusError → HoldingsState → HoldingsState) (u v mid w : PeerState M) (before next : Publication M) (asked : Result Reply BusError) (held : HoldingsState) (announced answered result : Result (Unit {0}) AnswerError) → record u { holdings = v.holdings } ≡ v

@@ -1,5 +1,5 @@
 -- What is put to a client.
-use Rattle.std.specs.Prelude.{MatchResult}
+use Rattle.std.specs.Prelude.{IfOk, MatchResult}
 use Rattle.std.proofs.Common.{◌≡◌, ℕ, Bool, true, false, not, List, [], ◌∷◌, None, Some, Result, Ok, Err, ⊎_elim, inl, inr, refl, sym, ap, subst, ◌∙◌, true≢false, Bor}
 use Rattle.outbox.specs.Items.{Item}
 use Rattle.outbox.specs.Seated.{OutboxId}
@@ -69,17 +69,41 @@ module _ {M : Type 0} where
   put_as P Q u v (Ok x) w e f (item, mark, p, is) = (item, mark, f item.bytes p, is ∙ ap (λ (s : PeerState M). record s { own = after_own_put item s.own }) e)
   put_as P Q u v (Err x) w e f (why, is) = (why, is ∙ ap (λ (s : PeerState M). record s { own = after_refusal x s.own }) e)
 
+  -- an answer was built with the serial and the name of the client
+  pub reply_built : (request : Request) (body : Body) (v : PeerState M) (serial : ℕ) (to bytes : List ℕ) → serial ≡ v.serial → to ≡ name_of v → AreAsked (reply_asked serial (Some to) request.serial body) bytes
+      → IsEither (reply_with v.serial (name_of v) request body) (fault_asked v request names.NoMemory) bytes
+  reply_built request body v serial to bytes s t built =
+      let A : ℕ → List ℕ → Type 0 = λ n x. AreAsked (reply_with n x request body) bytes in
+      inl (subst (A v.serial) t (subst (λ n. A n to) s (reply_is serial to request body bytes built)))
+
+  fault_moved : (request : Request) (name : ErrorName) (v : PeerState M) (serial : ℕ) (to bytes : List ℕ) → serial ≡ v.serial → to ≡ name_of v → AreAsked (error_asked serial (Some to) request.serial name) bytes → AreAsked (fault_asked v request name) bytes
+  fault_moved request name v serial to bytes s t built =
+      let A : ℕ → List ℕ → Type 0 = λ n x. AreAsked (fault_with n x request name) bytes in
+      subst (A v.serial) t (subst (λ n. A n to) s (fault_is serial to request name bytes built))
+
+  -- an error was
+  pub faults_are : (request : Request) (name : ErrorName) (v : PeerState M) (serial : ℕ) (to : List ℕ) (result : Result (List ℕ) AnswerError) → serial ≡ v.serial → to ≡ name_of v
+      → IfOk result (IsEither (error_asked serial (Some to) request.serial name) (error_asked serial (Some to) request.serial names.NoMemory)) → IfOk result (IsEither (fault_asked v request name) (fault_asked v request names.NoMemory))
+  faults_are request name v serial to (Ok bytes) s t built = ⊎_elim (λ h. inl (fault_moved request name v serial to bytes s t h)) (λ h. inr (fault_moved request names.NoMemory v serial to bytes s t h)) built
+  faults_are request name v serial to (Err error) s t built = tt
+
+  -- the error NoMemory was, in place of an answer
+  pub fault_built : (request : Request) (body : Body) (v : PeerState M) (serial : ℕ) (to : List ℕ) (result : Result (List ℕ) AnswerError) → serial ≡ v.serial → to ≡ name_of v
+      → IfOk result (IsEither (error_asked serial (Some to) request.serial names.NoMemory) (error_asked serial (Some to) request.serial names.NoMemory)) → IfOk result (IsEither (reply_with v.serial (name_of v) request body) (fault_asked v request names.NoMemory))
+  fault_built request body v serial to (Ok bytes) s t built = let moved = fault_moved request names.NoMemory v serial to bytes s t in inr (⊎_elim moved moved built)
+  fault_built request body v serial to (Err error) s t built = tt
+
   pub placed_as : (standing : Standing) (outbox_of : M → OutboxId) (history : List (Command M)) (P Q : List ℕ → Type 0) (v : PeerState M) (result : Result (Unit {0}) AnswerError) (w : PeerState M) → ((bytes : List ℕ) → P bytes → Q bytes)
       → IsPutAt standing outbox_of history P v result w → IsPutAt standing outbox_of history Q v result w
-  placed_as standing outbox_of history P Q v (Ok x) w f (bytes, n, p, put) = (bytes, n, f bytes p, put)
+  placed_as standing outbox_of history P Q v (Ok x) w f (bytes, n, p, put, seen, same) = (bytes, n, f bytes p, put, seen, same)
   placed_as standing outbox_of history P Q v (Err x) w f h = h
 
   no_memory_if : (put : ((List ℕ → Type 0) → PeerState M → Result (Unit {0}) AnswerError → PeerState M → Type 0)) (wants : Bool) (request : Request) (asked : Asked) (v : PeerState M) (result : Result (Unit {0}) AnswerError) (w : PeerState M)
       → ((P Q : List ℕ → Type 0) → ((bytes : List ℕ) → P bytes → Q bytes) → put P (after_serial v) result w → put Q (after_serial v) result w) → AnswersBy put wants request (fault_asked v request names.NoMemory) v result w → AnswersBy put wants request asked v result w
-  no_memory_if put false request asked v result w as h = h
-  no_memory_if put true request asked v result w as h =
+  no_memory_if put false request asked v result w mono h = h
+  no_memory_if put true request asked v result w mono h =
       let fault = fault_asked v request names.NoMemory in
-      as (IsEither fault fault) (IsEither asked fault) (λ bytes are. inr (⊎_elim (λ x. x) (λ x. x) are)) h
+      mono (IsEither fault fault) (IsEither asked fault) (λ bytes are. inr (⊎_elim (λ x. x) (λ x. x) are)) h
 
   -- the error NoMemory may stand in the place of any answer
   pub no_memory_for : (request : Request) (asked : Asked) (v : PeerState M) (result : Result (Unit {0}) AnswerError) (w : PeerState M) → IsRefused request (Error names.NoMemory) v result w → IsAnswered request asked v result w

@@ -182,10 +182,10 @@ impl<B: BusBrand, M: Mailbox> Peer<B, M> {
     {
         let serial = self.serials.take();
         let to = Some(self.name.as_str());
-        match reply(alloc, serial, to, request.serial, body) {
-            Ok(bytes) => Ok(bytes),
-            Err(_) => error_bytes(alloc, serial, to, request, ErrorName::NoMemory),
+        if let Ok(bytes) = reply(alloc, serial, to, request.serial, body) {
+            return Ok(bytes);
         }
+        error_bytes(alloc, serial, to, request, ErrorName::NoMemory)
     }
 
     // The bytes of the error that a call is answered with, or of the error NoMemory in its place, with the next serial.

@@ -16,7 +16,7 @@ returns-clause-row g c =
     let v : PeerState g.row.M.Denot = c.args.self.now in
     let made = c.change_owner-asked in
     let C : List ℕ → Type 0 = λ n. ChangesName g.M.Mailbox.outbox_of c.args.request (calls.Release n) (after_release n) v c.and.result c.answer_named-answered.new.self in
-    let P : PeerState g.row.M.Denot → Type 0 = λ s. ChangesOwner g.M.Mailbox.outbox_of (calls.Release c.in-Ok.name) v c.deref_mut.result.now made.result.0 made.result.1 s made.new.control in
-    let N : List ℕ → Type 0 = λ n. ChangesOwner g.M.Mailbox.outbox_of (calls.Release n) v c.deref_mut.result.now made.result.0 made.result.1 made.new.self made.new.control in
-    inr (subst C name (changed g.M.Mailbox.outbox_of c.args.request (calls.Release c.in-Ok.name) (after_release c.in-Ok.name) v v _ c.answer_named-answered.new.self c.deref_mut.result.now made.new.control made.result.0 (holdings_of c.note_release.new.self) made.result.1
+    let P : PeerState g.row.M.Denot → Type 0 = λ s. ChangesOwner g.M.Mailbox.outbox_of (calls.Release c.in-Ok.name) v c.deref_mut-control.result.now made.result.0 made.result.1 s made.new.control in
+    let N : List ℕ → Type 0 = λ n. ChangesOwner g.M.Mailbox.outbox_of (calls.Release n) v c.deref_mut-control.result.now made.result.0 made.result.1 made.new.self made.new.control in
+    inr (subst C name (changed g.M.Mailbox.outbox_of c.args.request (calls.Release c.in-Ok.name) (after_release c.in-Ok.name) v v _ c.answer_named-answered.new.self c.deref_mut-control.result.now made.new.control made.result.0 (holdings_of c.note_release.new.self) made.result.1
     c.answer_named-answered.result c.and.result refl (subst P (sym c.self.view_is) (subst N c.copy.ensures made.ensures.changes)) c.note_release.ensures c.answer_named-answered.ensures.row c.and.ensures))

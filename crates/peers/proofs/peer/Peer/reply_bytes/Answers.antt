@@ -1,9 +1,19 @@
-use Rattle.std.proofs.Common.{◌≡◌, ◌⊎◌, ℕ, List, ap, subst, ◌∙◌, ⊎_elim, inl, inr}
-use Rattle.message_build.specs.Building.{AreAsked}
-use Rattle.bus_messages.specs.declared.error_name.ErrorName.TheVariants.{NoMemory}
+use Rattle.std.proofs.Common.{◌≡◌, ◌∙◌, ap}
 use Rattle.unique_name.specs.UniqueNames.{unique_name}
-use Rattle.peers.specs.Answers.{reply_with, fault_with}
 use Rattle.peers.specs.PeerState.{PeerState, name_of}
-use Rattle.peers.proofs.Putting.{reply_is, fault_is, used_serial}
+use Rattle.peers.proofs.Putting.{reply_built, fault_built}
 use Rattle.peers.proofs.peer.Peer.reply_bytes.Goals as goal
 
+pub returns-in-Ok-clause-built : goal.returns-in-Ok-clause-built
+returns-in-Ok-clause-built g c =
+    let v : PeerState g.row.M.Denot = c.args.self.now in
+    let named : c.as_str.result.now ≡ name_of v = c.as_str.ensures.text ∙ ap unique_name (c.self.invariant ∙ ap (λ (v : PeerState g.row.M.Denot). v.pass.connection) c.self.view_is) in
+    let serial : c.take-serial.result ≡ v.serial = c.take-serial.ensures.next ∙ ap (λ (v : PeerState g.row.M.Denot). v.serial) c.self.view_is in
+    reply_built c.args.request c.args.body v c.take-serial.result c.as_str.result.now c.in-Ok.bytes serial named c.in-Ok.ensures
+
+pub returns-clause-built : goal.returns-clause-built
+returns-clause-built g c =
+    let v : PeerState g.row.M.Denot = c.args.self.now in
+    let named : c.as_str.result.now ≡ name_of v = c.as_str.ensures.text ∙ ap unique_name (c.self.invariant ∙ ap (λ (v : PeerState g.row.M.Denot). v.pass.connection) c.self.view_is) in
+    let serial : c.take-serial.result ≡ v.serial = c.take-serial.ensures.next ∙ ap (λ (v : PeerState g.row.M.Denot). v.serial) c.self.view_is in
+    fault_built c.args.request c.args.body v c.take-serial.result c.as_str.result.now c.error_bytes.result serial named c.error_bytes.ensures.built

@@ -22,11 +22,11 @@ returns-clause-row g c =
     let answered = c.answer_named-answered in
     let change : List ℕ → Result Reply BusError → HoldingsState → HoldingsState = after_request in
     let W : List ℕ → Type 0 = λ n. WithinShare (name_limit c.args.context.now.shares n v.holdings) c.args.request (WithinMemory c.args.request (ChangesName g.M.Mailbox.outbox_of c.args.request (calls.Request n c.args.flags) (change n) v c.and.result answered.new.self) v c.and.result answered.new.self) v c.and.result answered.new.self in
-    let N : List ℕ → Type 0 = λ n. ChangesOwner g.M.Mailbox.outbox_of (calls.Request n c.args.flags) u c.deref_mut.result.now made.result.0 made.result.1 made.new.self made.new.control in
-    let P : PeerState g.row.M.Denot → Type 0 = λ s. ChangesOwner g.M.Mailbox.outbox_of (calls.Request c.in-Ok.name c.args.flags) u c.deref_mut.result.now made.result.0 made.result.1 s made.new.control in
+    let N : List ℕ → Type 0 = λ n. ChangesOwner g.M.Mailbox.outbox_of (calls.Request n c.args.flags) u c.deref_mut-control.result.now made.result.0 made.result.1 made.new.self made.new.control in
+    let P : PeerState g.row.M.Denot → Type 0 = λ s. ChangesOwner g.M.Mailbox.outbox_of (calls.Request c.in-Ok.name c.args.flags) u c.deref_mut-control.result.now made.result.0 made.result.1 s made.new.control in
     let held = c.note_request.ensures ∙ ap (change c.in-Ok.name made.result.0) (ap holdings_of c.replace-holdings.ensures.value ∙ (c.admit_name.ensures.same ∙ ap (λ (s : PeerState g.row.M.Denot). s.holdings) c.self.view_is)) in
     inr (subst W name (within_share (name_limit c.args.context.now.shares c.in-Ok.name) c.args.request _ _ v answered.new.self c.and.result c.self.view_is c.in_default-admit_name.ensures.within
-    (inl (changed_aside g.M.Mailbox.outbox_of c.args.request (calls.Request c.in-Ok.name c.args.flags) (change c.in-Ok.name) u v _ answered.new.self c.deref_mut.result.now made.new.control made.result.0 (holdings_of c.note_request.new.self) made.result.1
+    (inl (changed_aside g.M.Mailbox.outbox_of c.args.request (calls.Request c.in-Ok.name c.args.flags) (change c.in-Ok.name) u v _ answered.new.self c.deref_mut-control.result.now made.new.control made.result.0 (holdings_of c.note_request.new.self) made.result.1
     answered.result c.and.result (ap (λ (s : PeerState g.row.M.Denot). record s { holdings = v.holdings }) c.self.view_is) (subst P (sym c.self-2.view_is) (subst N c.copy.ensures made.ensures.changes)) held answered.ensures.row c.and.ensures))))
 
 pub returns-in-Err-clause-row : goal.returns-in-Err-clause-row
