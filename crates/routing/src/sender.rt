@@ -9,9 +9,10 @@ use crate::error::RouteError;
 use crate::events::{begin, end};
 use crate::gate::Gate;
 use crate::mailbox::Mailbox;
+use crate::numbers::place_of;
 use crate::recipient::Recipient;
 use crate::recipient_seats::{
-    RecipientSeat, place_of, push_out_all, put_all, put_at, retain, shut_waiting, take_seat,
+    RecipientSeat, push_out_all, put_all, put_at, retain, shut_waiting, take_seat,
 };
 use crate::turns::Turns;
 use arrayvec::ArrayVec;
@@ -46,13 +47,14 @@ pub struct Sender<C> {
 impl<C> Model for Sender<C> {
     ghost use Rattle.routing.specs.SenderView.{SenderView};
     ghost use Rattle.routing.specs.RecipientSeats.{AllFit};
+    ghost use Rattle.routing.specs.Numbers.{SeatsRise};
     ghost use Rattle.routing.specs.Settled.{IsSettled};
 
     ghost Value = { SenderView };
 
     ghost view = { λ s. record { origin = s.origin; count = s.count; recipient_seats = s.recipient_seats.items } };
 
-    ghost invariant = { λ s. AllFit s.origin s.count s.recipient_seats.items × IsSettled s.is_holding s.releases };
+    ghost invariant = { λ s. AllFit s.origin s.count s.recipient_seats.items × SeatsRise s.recipient_seats.items × IsSettled s.is_holding s.releases };
 }
 
 impl<C> Sender<C> {
@@ -75,7 +77,7 @@ impl<C: Mailbox> Sender<C> {
     pub fn has(&self, recipient: u64) -> bool
         ensures { result ≡ is_some (seat_at recipient self.now.recipient_seats) }
     {
-        place_of(self.recipient_seats.as_slice(), recipient).is_some()
+        place_of(self.recipient_seats.as_slice(), recipient).is_ok()
     }
 
     /// Takes a seat at the recipient's outbox, where it has none there.
@@ -210,6 +212,7 @@ impl<C: Mailbox> Sender<C> {
             self.recipient_seats.as_mut_slice(),
             turns,
             recipient,
+            &mut 0,
             item,
         )
     }

@@ -3,6 +3,7 @@ use Rattle.std.proofs.lemmas.List.{with_items_is, places}
 use Rattle.outbox.specs.Items.{Item}
 use Rattle.routing.specs.SenderView.{RecipientSeatView}
 use Rattle.routing.specs.RecipientSeats.{AllFit}
+use Rattle.routing.specs.Numbers.{SeatsRise}
 use Rattle.routing.specs.Puts.{PutTo}
 use Rattle.routing.proofs.Routes.{routed_fit}
 use Rattle.routing.proofs.sender.Sender.put_broadcast.Goals as goal
@@ -13,9 +14,10 @@ invariant_of-self-2 g c =
     let count = c.self.inside.count in
     let item : Item = c.in_ok-shares.shares.message in
     let put : List RecipientSeatView → Type 0 = λ l. PutTo item c.args.recipients.now c.put_all.new.refused.items l c.put_all.new.recipient_seats in
-    let fit : List RecipientSeatView → Type 0 = λ l. AllFit origin (count + 1) l in (
-      subst fit (sym (with_items_is c.self.inside.recipient_seats c.put_all.new.recipient_seats (search (rules, places))))
-          (routed_fit item c.args.recipients.now c.put_all.new.refused.items origin count c.self.inside.recipient_seats.items c.put_all.new.recipient_seats c.in_ok-shares.ensures.shares.1 c.self.invariant.0
-          (subst put c.as_mut_slice.ensures.value c.put_all.ensures.put)),
-      c.end.ensures,
-    )
+    let kept : List RecipientSeatView → Type 0 = λ l. AllFit origin (count + 1) l × SeatsRise l in
+    let done = subst kept (sym (with_items_is c.self.inside.recipient_seats c.put_all.new.recipient_seats (search (rules, places)))) (
+      routed_fit item c.args.recipients.now c.put_all.new.refused.items origin count c.self.inside.recipient_seats.items c.put_all.new.recipient_seats c.in_ok-shares.ensures.shares.1 c.self.invariant.0
+          (subst put c.as_mut_slice.ensures.value c.put_all.ensures.put),
+      c.put_all.ensures.rise,
+    ) in
+    (done.0, done.1, c.end.ensures)
