@@ -1,14 +1,14 @@
 -- Turns that are added, given up and used.
-use Rattle.std.proofs.Common.{ℕ, ◌≡◌, ◌≤◌, ◌==◌, not, Option, Some, None, IfSome, IsSomeAnd, option_map, Bool, true, false, true≢false, cond, List, [], ◌∷◌, ◌++◌, filter, refl, sym, ap, ◌∙◌, subst, arith, eq-eqb, eqb-true}
+use Rattle.std.proofs.Common.{ℕ, ◌≡◌, ◌≤◌, ◌==◌, not, Option, Some, None, is_some, IfSome, IsSomeAnd, option_map, Bool, true, false, true≢false, cond, List, [], ◌∷◌, filter, refl, sym, ap, ◌∙◌, subst, arith, eq-eqb, eqb-true}
 use Rattle.std.specs.Global.{Global}
-use Rattle.std.specs.Option.{option_or}
-use Rattle.std.proofs.lemmas.List.Folds.{find-append}
+use Rattle.std.specs.List.{insert}
 use Rattle.crossbeam_queue.specs.SegTies.{SegId}
-use Rattle.outbox.specs.Items.{Item}
 use Rattle.routing.specs.SenderView.{RecipientSeatView}
-use Rattle.routing.specs.RecipientSeats.{seat_at, is_in}
+use Rattle.routing.specs.RecipientSeats.{seat_at}
+use Rattle.routing.specs.Numbers.{connection_of, TurnsRise, IsAt, IsGap}
 use Rattle.routing.specs.Puts.{TurnUsed}
-use Rattle.routing.specs.Turns.{TurnView, TurnsView, is_turn_of, turn_at, queue_at, AllBefore, HasTurn, StandsAt, MayStand, KeepsTurns}
+use Rattle.routing.specs.Turns.{TurnView, TurnsView, turn_at, queue_at, AllBefore, StandsAt, KeepsTurns}
+use Rattle.routing.proofs.Places.{inserted, is_there}
 
 abbrev queue_in : Option TurnView → Option (SegId Global)
 queue_in o = option_map (λ (t : TurnView). t.queue) o
@@ -16,32 +16,30 @@ queue_in o = option_map (λ (t : TurnView). t.queue) o
 abbrev IsBefore : ℕ → Option TurnView → Type 0
 IsBefore latest o = IfSome o (λ t. t.last ≤ latest)
 
--- a turn that is added after the others
-pub added_queue : (t : TurnView) (turns : List TurnView) → queue_at t.number turns ≡ None → (n : ℕ) → queue_at n (turns ++ t ∷ []) ≡ cond (t.number == n) (Some t.queue) (queue_at n turns)
-added_queue t turns new n =
-    ap queue_in (find-append (is_turn_of n) turns (t ∷ [])) ∙ pick (turn_at n turns) (t.number == n) refl refl
+-- a turn that is added in its gap
+pub added_queue : (t : TurnView) (k : ℕ) (turns : List TurnView) → IsGap connection_of t.number turns k → (n : ℕ) → queue_at n (insert turns k t) ≡ cond (t.number == n) (Some t.queue) (queue_at n turns)
+added_queue t k turns gap n = ap queue_in (inserted connection_of t.number k turns t gap refl n) ∙ pick (t.number == n)
   where
-    lacks : (o : Option TurnView) (s : TurnView) → queue_in o ≡ None → o ≡ Some s → ⊥
-    lacks None s e h = absurd (cc)
-    lacks (Some r) s e h = absurd (cc)
+    pick : (b : Bool) → queue_in (cond b (Some t) (turn_at n turns)) ≡ cond b (Some t.queue) (queue_at n turns)
+    pick true = refl
+    pick false = refl
 
-    pick : (o : Option TurnView) (b : Bool) → turn_at n turns ≡ o → (t.number == n) ≡ b → queue_in (option_or o (cond b (Some t) None)) ≡ cond b (Some t.queue) (queue_in o)
-    pick None true e is = refl
-    pick None false e is = refl
-    pick (Some s) false e is = refl
-    pick (Some s) true e is =
-        let P : ℕ → Type 0 = λ m. queue_at m turns ≡ None in
-        absurd (lacks (turn_at n turns) s (subst P (eqb-true t.number n is) new) e)
-
-pub added_before : (latest : ℕ) (t : TurnView) (turns : List TurnView) → t.last ≤ latest → AllBefore latest turns → AllBefore latest (turns ++ t ∷ [])
-added_before latest t turns le all n =
+pub added_before : (latest : ℕ) (t : TurnView) (k : ℕ) (turns : List TurnView) → IsGap connection_of t.number turns k → t.last ≤ latest → AllBefore latest turns → AllBefore latest (insert turns k t)
+added_before latest t k turns gap le all n =
     let P : Option TurnView → Type 0 = λ o. IsBefore latest o in
-    subst P (sym (find-append (is_turn_of n) turns (t ∷ []))) (pick (turn_at n turns) (t.number == n) (all n))
+    subst P (sym (inserted connection_of t.number k turns t gap refl n)) (pick (t.number == n))
   where
-    pick : (o : Option TurnView) (b : Bool) → IsBefore latest o → IsBefore latest (option_or o (cond b (Some t) None))
-    pick (Some s) b h = h
-    pick None true h = le
-    pick None false h = tt
+    pick : (b : Bool) → IsBefore latest (cond b (Some t) (turn_at n turns))
+    pick true = le
+    pick false = all n
+
+-- where no turn is, none is found
+pub no_turn : (n k : ℕ) (turns : List TurnView) → TurnsRise turns → queue_at n turns ≡ None → IsAt connection_of n turns k → ⊥
+no_turn n k turns rise none at = lacks (turn_at n turns) none (is_there connection_of n k turns rise at)
+  where
+    lacks : (o : Option TurnView) → queue_in o ≡ None → is_some o ≡ true → ⊥
+    lacks None e some = absurd (true≢false (sym some))
+    lacks (Some t) e some = absurd (cc)
 
 -- a turn that is given up
 left_at : (number n : ℕ) (turns : List TurnView) → turn_at n (filter (λ (t : TurnView). not (t.number == number)) turns) ≡ cond (number == n) None (turn_at n turns)

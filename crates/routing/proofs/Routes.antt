@@ -1,5 +1,5 @@
 -- What taken seats and puts leave of a sender's recipient_seats.
-use Rattle.std.proofs.Common.{eqb-true, ◌∷◌, ℕ, ◌≡◌, ◌+◌, ◌≤◌, ◌==◌, ◌&&◌, ◌⊎◌, not, Bool, true, false, true≢false, cond, List, [], filter, refl, sym, ap, ◌∙◌, subst, arith, append-nil, ◌++◌, Option, Some, None, IfSome, option_map}
+use Rattle.std.proofs.Common.{eqb-true, ◌∷◌, ℕ, ◌≡◌, ◌+◌, ◌≤◌, ◌==◌, ◌&&◌, not, Bool, true, false, true≢false, cond, List, [], filter, refl, sym, ap, ◌∙◌, subst, arith, append-nil, ◌++◌, Option, Some, None, IfSome, option_map}
 use Rattle.outbox.specs.Items.{Item}
 use Rattle.outbox.specs.declared.rule.SeatView.{SeatView}
 use Rattle.outbox.specs.Counts.{AreOf, count_of, counts_of, last_of}

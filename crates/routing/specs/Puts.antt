@@ -67,8 +67,12 @@ pub record RoutedTo (place : Option ℕ) (bytes recipients refused : List ℕ) (
   pub count_is : new.count ≡ old.count + 1
   pub change : PutTo item recipients refused old.recipient_seats new.recipient_seats
 
--- a message that isn't a broadcast was put to the recipient or refused, and nothing else changes
-pub record PutOnce (recipient : ℕ) (item : Item) (put : Bool) (old new : SenderView) : Type 0 where
+-- a message with these bytes that isn't a broadcast, at this place if at any, was put to the recipient or refused, and nothing else changes
+pub record PutOnce (place : Option ℕ) (bytes : List ℕ) (recipient : ℕ) (put : Bool) (old new : SenderView) : Type 0 where
+  pub item : Item
+  pub bytes_are : item.bytes ≡ bytes
+  pub mark_is : item.mark ≡ None
+  pub place_is : item.place ≡ place
   pub origin_is : new.origin ≡ old.origin
   pub count_is : new.count ≡ old.count
   pub change : PutAt recipient item put old.recipient_seats new.recipient_seats

@@ -1,13 +1,15 @@
 // A sender's seats at the outboxes of its recipients.
 
-ghost use Rattle.std.specs.Prelude.{◌≡◌, ◌<◌, ◌≤◌, ◌++◌, ◌∷◌, [], ℕ, cond, false, Some, IfOk, OnOk, IfSome, IsSomeAnd, filter, length, position};
+ghost use Rattle.std.specs.Prelude.{◌≡◌, ◌<◌, ◌≤◌, ◌++◌, ◌∷◌, [], ℕ, cond, false, Some, IfOk, OnOk, IfSome, IsSomeAnd, filter, length};
 ghost use Rattle.outbox.specs.Views.{Follows, blank};
 ghost use Rattle.routing.specs.SenderView.{RecipientSeatView};
-ghost use Rattle.routing.specs.RecipientSeats.{RisesFrom, is_for, is_in, seat_at, all_written, HasSeat, AllHave};
+ghost use Rattle.routing.specs.RecipientSeats.{RisesFrom, is_in, seat_at, all_written, HasSeat, AllHave};
+ghost use Rattle.routing.specs.Numbers.{SeatsRise};
 ghost use Rattle.routing.specs.Turns.{queue_at, KeepsTurns, MayStand, StandsAt};
 ghost use Rattle.routing.specs.Puts.{PutThere, PutAt, PutTo, SeatsTaken};
 
 use crate::mailbox::Mailbox;
+use crate::numbers::{Numbered, place_near, place_of};
 use crate::recipient::Recipient;
 use crate::turns::Turns;
 use arrayvec::ArrayVec;
@@ -38,13 +40,17 @@ impl<C> Model for RecipientSeat<C> {
     ghost invariant = { λ s. s.seat.outbox ≡ s.outbox };
 }
 
-impl<C> RecipientSeat<C> {
-    pub(crate) fn recipient(&self) -> u64
-        ensures { result ≡ self.now.recipient }
-    {
+impl<C> Numbered for RecipientSeat<C> {
+    ghost use Rattle.routing.specs.Numbers.{recipient_of};
+
+    ghost number_of = { recipient_of };
+
+    fn number(&self) -> u64 {
         self.recipient
     }
+}
 
+impl<C> RecipientSeat<C> {
     /// Puts an item there, and says whether it was put. One that bears a place is put by the outbox's turn.
     pub(crate) fn put<R: Wait>(&mut self, rt: &R, turns: &mut Turns, item: Item) -> bool
         requires follows { Follows self.old.seat.view.put item.mark }
@@ -79,31 +85,29 @@ impl<C: Mailbox> RecipientSeat<C> {
     }
 }
 
-/// Where the recipient's recipient_seat is.
-pub(crate) fn place_of<C>(recipient_seats: &[RecipientSeat<C>], recipient: u64) -> Option<usize>
-    ensures { result ≡ position (is_for recipient) recipient_seats.now }
-{
-    recipient_seats
-        .iter()
-        .position(|s| s.recipient() == recipient)
-}
-
-/// Puts an item at the recipient's outbox, and says whether it was put.
+/// Puts an item at the recipient's outbox, and says whether it was put. The seat there is found at once if it is where it is
+/// guessed to be, and the next guess is the seat after it.
 pub(crate) fn put_at<C, R: Wait>(
     rt: &R,
     recipient_seats: &mut [RecipientSeat<C>],
     turns: &mut Turns,
     recipient: u64,
+    guess: &mut usize,
     item: Item,
 ) -> bool
+    requires rise { SeatsRise recipient_seats.old }
     requires follows { IsSomeAnd (seat_at recipient recipient_seats.old) (λ s. Follows s.seat.view.put item.mark) }
     requires stands { StandsAt item.place recipient recipient_seats.old turns.old }
+    ensures rise { SeatsRise recipient_seats.new }
     ensures put { PutAt recipient item result recipient_seats.old recipient_seats.new }
     ensures turns { KeepsTurns turns.old turns.new }
 {
-    match place_of(recipient_seats, recipient) {
-        Some(place) => recipient_seats[place].put(rt, turns, item),
-        None => unreachable!(),
+    match place_near(recipient_seats, *guess, recipient) {
+        Ok(place) => {
+            *guess = place + 1;
+            recipient_seats[place].put(rt, turns, item)
+        }
+        Err(_) => unreachable!(),
     }
 }
 
@@ -112,15 +116,19 @@ pub(crate) fn take_seat<C: Mailbox>(
     recipient_seats: &mut Vec<RecipientSeat<C>>,
     recipient: Recipient<C>,
 ) -> Result<(), AllocError>
+    requires rise { SeatsRise recipient_seats.old.items }
+    ensures rise { SeatsRise recipient_seats.new.items }
     ensures taken { SeatsTaken (recipient ∷ []) recipient_seats.old.items recipient_seats.new.items }
     ensures has { OnOk result (HasSeat recipient.number recipient_seats.new.items) }
 {
-    if place_of(recipient_seats.as_slice(), recipient.number()).is_some() {
-        return Ok(());
+    match place_of(recipient_seats.as_slice(), recipient.number()) {
+        Ok(_) => Ok(()),
+        Err(place) => {
+            let recipient_seat = RecipientSeat::at(recipient)?;
+            recipient_seats.insert(place, recipient_seat)?;
+            Ok(())
+        }
     }
-    let recipient_seat = RecipientSeat::at(recipient)?;
-    recipient_seats.push(recipient_seat)?;
-    Ok(())
 }
 
 // Lists the recipient, where its outbox refused the put.
@@ -142,6 +150,7 @@ pub(crate) fn put_all<C, R: Wait>(
     shares: &mut Shares,
     refused: &mut ArrayVec<u64, 4096>,
 )
+    requires rise { SeatsRise recipient_seats.old }
     requires has { AllHave recipients.now recipient_seats.old }
     requires rising { RisesFrom 0 recipients.now }
     requires shares { shares.old.left ≡ length recipients.now }
@@ -149,12 +158,21 @@ pub(crate) fn put_all<C, R: Wait>(
     requires follows { (n : ℕ) → IfSome (seat_at n recipient_seats.old) (λ s. Follows s.seat.view.put shares.old.message.mark) }
     requires stands { MayStand shares.old.message.place recipients.now recipient_seats.old turns.old }
     requires none { refused.old.items ≡ [] }
+    ensures rise { SeatsRise recipient_seats.new }
     ensures turns { KeepsTurns turns.old turns.new }
     ensures put { PutTo shares.old.message recipients.now refused.new.items recipient_seats.old recipient_seats.new }
     ensures left { (shares.new.left ≡ 0) × (shares.new.message ≡ shares.old.message) }
 {
+    let mut guess = 0;
     for recipient in recipients {
-        let put = put_at(rt, recipient_seats, turns, *recipient, shares.next());
+        let put = put_at(
+            rt,
+            recipient_seats,
+            turns,
+            *recipient,
+            &mut guess,
+            shares.next(),
+        );
         note(refused, *recipient, put);
     }
 }
@@ -192,5 +210,5 @@ fn is_among(number: u64, numbers: &[u64]) -> bool
 pub(crate) fn retain<C: Drop>(recipient_seats: &mut Vec<RecipientSeat<C>>, recipients: &[u64])
     ensures { recipient_seats.new.items ≡ filter (λ s. is_in s.recipient recipients.now) recipient_seats.old.items }
 {
-    recipient_seats.retain(|recipient_seat| is_among(recipient_seat.recipient(), recipients));
+    recipient_seats.retain(|recipient_seat| is_among(recipient_seat.number(), recipients));
 }

@@ -6,12 +6,13 @@ ghost use Rattle.routing.specs.Turns.{KeepsTurns, MayStand, StandsAt};
 ghost use Rattle.routing.specs.Puts.{RoutedTo, PutOnce};
 
 use crate::error::RouteError;
-use crate::events::{begin, end};
+use crate::events::{begin, end, message, release};
 use crate::gate::Gate;
 use crate::mailbox::Mailbox;
+use crate::numbers::place_of;
 use crate::recipient::Recipient;
 use crate::recipient_seats::{
-    RecipientSeat, place_of, push_out_all, put_all, put_at, retain, shut_waiting, take_seat,
+    RecipientSeat, push_out_all, put_all, put_at, retain, shut_waiting, take_seat,
 };
 use crate::turns::Turns;
 use arrayvec::ArrayVec;
@@ -41,18 +42,21 @@ pub struct Sender<C> {
     // None before the first message that is held.
     releases: Option<Releases>,
     is_holding: bool,
+    // Something that was held was given up, and is held for ever.
+    has_withdrawn: bool,
 }
 
 impl<C> Model for Sender<C> {
     ghost use Rattle.routing.specs.SenderView.{SenderView};
     ghost use Rattle.routing.specs.RecipientSeats.{AllFit};
-    ghost use Rattle.routing.specs.Settled.{IsSettled};
+    ghost use Rattle.routing.specs.Numbers.{SeatsRise};
+    ghost use Rattle.routing.specs.Settled.{IsSettled, HoldsOwn};
 
     ghost Value = { SenderView };
 
     ghost view = { λ s. record { origin = s.origin; count = s.count; recipient_seats = s.recipient_seats.items } };
 
-    ghost invariant = { λ s. AllFit s.origin s.count s.recipient_seats.items × IsSettled s.is_holding s.releases };
+    ghost invariant = { λ s. AllFit s.origin s.count s.recipient_seats.items × SeatsRise s.recipient_seats.items × IsSettled s.is_holding s.releases × HoldsOwn s.has_withdrawn s.releases s.recipient_seats.items };
 }
 
 impl<C> Sender<C> {
@@ -66,6 +70,7 @@ impl<C> Sender<C> {
             recipient_seats: Vec::new(alloc),
             releases: None,
             is_holding: false,
+            has_withdrawn: false,
         }
     }
 }
@@ -75,7 +80,7 @@ impl<C: Mailbox> Sender<C> {
     pub fn has(&self, recipient: u64) -> bool
         ensures { result ≡ is_some (seat_at recipient self.now.recipient_seats) }
     {
-        place_of(self.recipient_seats.as_slice(), recipient).is_some()
+        place_of(self.recipient_seats.as_slice(), recipient).is_ok()
     }
 
     /// Takes a seat at the recipient's outbox, where it has none there.
@@ -189,8 +194,7 @@ impl<C: Mailbox> Sender<C> {
         ensures full { result ≡ Ok Sent.Full → shut_at recipient self.new.recipient_seats ≡ true }
         ensures shut { shut_at recipient self.old.recipient_seats ≡ true → IfOk result (λ sent. sent ≡ Sent.Full) }
     {
-        let item = self.message(alloc, bytes.clone()?, place)?;
-        if self.put(rt, turns, recipient, item) {
+        if self.put(rt, alloc, recipient, bytes.clone()?, place, turns)? {
             Ok(Sent::Put)
         } else {
             Ok(Sent::Full)
@@ -198,20 +202,31 @@ impl<C: Mailbox> Sender<C> {
     }
 
     // Puts a message that isn't a broadcast, and says whether it was put.
-    fn put<R: Wait>(&mut self, rt: &R, turns: &mut Turns, recipient: u64, item: Item) -> bool
+    fn put<R: Wait>(
+        &mut self,
+        rt: &R,
+        alloc: Global,
+        recipient: u64,
+        bytes: Bytes,
+        place: Option<u64>,
+        turns: &mut Turns,
+    ) -> Result<bool, AllocError>
         requires has { HasSeat recipient self.old.recipient_seats }
-        requires stands { StandsAt item.place recipient self.old.recipient_seats turns.old }
-        requires unmarked { item.mark ≡ None }
-        ensures put { PutOnce recipient item result self.old self.new }
+        requires stands { StandsAt place recipient self.old.recipient_seats turns.old }
+        ensures put { IfOk result (λ put. PutOnce place bytes recipient put self.old self.new) }
         ensures turns { KeepsTurns turns.old turns.new }
+        ensures err { OnErr result (self.new ≡ self.old) }
     {
-        put_at(
+        let item = message(&mut self.releases, self.is_holding, alloc, bytes, place)?;
+        let put = put_at(
             rt,
             self.recipient_seats.as_mut_slice(),
             turns,
             recipient,
+            &mut 0,
             item,
-        )
+        );
+        Ok(put)
     }
 
     /// A message that isn't a broadcast, for a put at one outbox. It is held with what is put while the sender holds.
@@ -224,13 +239,7 @@ impl<C: Mailbox> Sender<C> {
         ensures ok { IfOk result (λ item. (item.bytes ≡ bytes) × (item.mark ≡ None) × (item.place ≡ place)) }
         ensures same { self.new ≡ self.old }
     {
-        if !self.is_holding {
-            return Item::new(alloc, bytes, place);
-        }
-        let mut shares = begin(&mut self.releases, alloc, bytes, None, place, 1)?;
-        let item = shares.next();
-        end(&mut self.releases, shares, self.is_holding);
-        Ok(item)
+        message(&mut self.releases, self.is_holding, alloc, bytes, place)
     }
 
     /// Holds what is put from now on until `release`: no outbox gives it out before.
@@ -245,9 +254,7 @@ impl<C: Mailbox> Sender<C> {
         ensures { self.new ≡ self.old }
     {
         self.is_holding = false;
-        if let Some(releases) = &mut self.releases {
-            releases.release();
-        }
+        release(&mut self.releases);
     }
 
     /// Gives up what is held: no outbox ever gives it out. Nor does it give out what stands after it, so each outbox in which
@@ -257,6 +264,7 @@ impl<C: Mailbox> Sender<C> {
     {
         self.is_holding = false;
         self.releases = None;
+        self.has_withdrawn = true;
         shut_waiting(self.recipient_seats.as_slice());
     }
 

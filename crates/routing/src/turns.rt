@@ -1,10 +1,12 @@
 // The turns of the outboxes of connections.
 
-ghost use Rattle.std.specs.Prelude.{◌≡◌, ◌≤◌, ◌==◌, [], ℕ, None, Some, cond, true, IsErr, IsSomeAnd, OnErr, OnOk, nat_le, position};
+ghost use Rattle.std.specs.Prelude.{◌≡◌, ◌≤◌, ◌==◌, [], ℕ, None, Some, cond, true, IsErr, IsSomeAnd, OnErr, OnOk, nat_le};
 ghost use Rattle.outbox.specs.Views.{Follows, after_put};
+ghost use Rattle.routing.specs.Numbers.{TurnsRise};
 ghost use Rattle.routing.specs.Puts.{TurnUsed};
-ghost use Rattle.routing.specs.Turns.{TurnView, TurnsView, is_turn_of, queue_at, turn_at, AllBefore, KeepsTurns};
+ghost use Rattle.routing.specs.Turns.{TurnView, TurnsView, queue_at, turn_at, AllBefore, KeepsTurns};
 
+use crate::numbers::{Numbered, place_of};
 use outbox::{Item, Outbox, Seat, Turn};
 use std::alloc::{AllocError, Global};
 use std::marker::Model;
@@ -25,13 +27,17 @@ impl Model for NumberedTurn {
     ghost view = { λ t. record { number = t.number; queue = t.turn.queue; last = t.turn.last } };
 }
 
-impl NumberedTurn {
-    fn number(&self) -> u64
-        ensures { result ≡ self.now.number }
-    {
+impl Numbered for NumberedTurn {
+    ghost use Rattle.routing.specs.Numbers.{connection_of};
+
+    ghost number_of = { connection_of };
+
+    fn number(&self) -> u64 {
         self.number
     }
+}
 
+impl NumberedTurn {
     // Puts an item at the turn's outbox, by one's own seat.
     fn put<R: Wait>(
         &mut self,
@@ -65,18 +71,13 @@ pub struct Turns {
 impl Model for Turns {
     ghost use Rattle.std.specs.Prelude.{nat_lt, vec_len, vec_capacity};
     ghost use Rattle.routing.specs.Turns.{TurnsView, AllBefore};
+    ghost use Rattle.routing.specs.Numbers.{TurnsRise};
 
     ghost Value = { TurnsView };
 
     ghost view = { λ t. record { latest = t.latest; turns = t.turns.items; has_room = nat_lt (vec_len t.turns) (vec_capacity t.turns) } };
 
-    ghost invariant = { λ t. AllBefore t.latest t.turns.items };
-}
-
-fn place_of(turns: &[NumberedTurn], number: u64) -> Option<usize>
-    ensures { result ≡ position (is_turn_of number) turns.now }
-{
-    turns.iter().position(|turn| turn.number() == number)
+    ghost invariant = { λ t. AllBefore t.latest t.turns.items × TurnsRise t.turns.items };
 }
 
 impl Turns {
@@ -118,7 +119,14 @@ impl Turns {
         ensures latest { self.new.latest ≡ self.old.latest }
         ensures added { (n : ℕ) → queue_at n self.new.turns ≡ cond (number == n) (Some turn.queue) (queue_at n self.old.turns) }
     {
-        self.turns.push_reserved(NumberedTurn { number, turn });
+        let place = match place_of(self.turns.as_slice(), number) {
+            Ok(_) => unreachable!(),
+            Err(place) => place,
+        };
+        match self.turns.insert(place, NumberedTurn { number, turn }) {
+            Ok(()) => {}
+            Err(_) => unreachable!(),
+        }
     }
 
     /// Gives up the turn of a connection's outbox.
@@ -129,8 +137,9 @@ impl Turns {
         self.turns.retain(|turn| turn.number() != number);
     }
 
-    /// Puts an item that bears the latest place at the outbox of the connection, by one's own seat.
-    pub(crate) fn put<R: Wait>(
+    /// Puts an item that bears the latest place at the outbox of the connection, by one's own seat there. A put that is refused,
+    /// as `Outbox::put_placed` refuses it, gives the item back, and the outbox is shut.
+    pub fn put<R: Wait>(
         &mut self,
         rt: &R,
         number: u64,
@@ -164,6 +173,8 @@ fn put_by<R: Wait>(
     requires place { seat.old.outbox ≡ outbox.now }
     requires turn { IsSomeAnd (turn_at number turns.old) (λ t. (t.queue ≡ outbox.now.queue) × IsSomeAnd item.place (λ p. t.last ≤ p)) }
     requires follows { Follows seat.old.view.put item.mark }
+    requires rise { TurnsRise turns.old }
+    ensures rise { TurnsRise turns.new }
     ensures seat { (seat.new.outbox ≡ seat.old.outbox) × (seat.new.number ≡ seat.old.number) }
     ensures put { OnOk result (seat.new.view ≡ after_put seat.old.view item) }
     ensures back { OnErr result ((seat.new.view ≡ seat.old.view) × (seat.new.knows_shut ≡ true)) }
@@ -171,7 +182,7 @@ fn put_by<R: Wait>(
     ensures turn { IsSomeAnd item.place (λ p. TurnUsed number p turns.old turns.new) }
 {
     match place_of(turns, number) {
-        Some(place) => turns[place].put(rt, outbox, seat, item),
-        None => unreachable!(),
+        Ok(place) => turns[place].put(rt, outbox, seat, item),
+        Err(_) => unreachable!(),
     }
 }

@@ -40,4 +40,5 @@ loop-recipient-preserved g c =
       omega (arith, c.next.ensures.left.0, l.invariant.2),
       search rules,
       turns_kept_on c.args.turns.now l.turns c.put_at-put.new.turns l.invariant.4 c.put_at-put.ensures.turns,
+      c.put_at-put.ensures.rise,
     )
