@@ -5,7 +5,7 @@ _dbusfan_options() {
     run) echo --edition --each --help ;;
     asm | check | compile) echo --help ;;
     serve) echo --listen --guid --connections --until-closed --limit --print-address --session --nofork --allow-anonymous --allow-external --log --quiet --help ;;
-    watch) echo --program --edition --attach --monitor --invert --rules --of --calls --slow --patience --summary --why --hex --json --time --clock --full --names --count --seconds --read --write --help ;;
+    watch) echo --program --edition --filter --attach --monitor --invert --rules --of --calls --slow --patience --summary --top --why --hex --json --time --clock --full --names --count --seconds --read --write --help ;;
     esac
 }
 
@@ -21,7 +21,7 @@ _dbusfan() {
     case ${COMP_WORDS[COMP_CWORD - 1]} in
     --edition) names='1 2' ;;
     --listen) names='unix:path= unix:dir= unix:tmpdir= unix:abstract= unix:runtime=yes tcp:host=' ;;
-    --guid | --connections | --of | --slow | --patience | --count | --seconds) return ;;
+    --guid | --connections | --of | --filter | --slow | --patience | --count | --seconds) return ;;
     --program | --read | --rules | --write | = | :) names= ;;
     *)
         names=$(_dbusfan_names "$COMP_CWORD" "$command")

@@ -191,10 +191,16 @@ pub(crate) static COMMANDS: [CommandHelp; 7] = [
             },
             EDITION,
             ArgumentHelp {
+                name: "filter",
+                form: Form::Value(Value::Text("EXPR")),
+                is_required: false,
+                text: "Only messages that this filter expression holds of, as \"signal and member = c\"; it runs here",
+            },
+            ArgumentHelp {
                 name: "attach",
                 form: Form::Flag,
                 is_required: false,
-                text: "Has the bus run the program, which one of dbusfan's own can do",
+                text: "Has the bus run the program or the filter, which one of dbusfan's own can do",
             },
             ArgumentHelp {
                 name: "monitor",
@@ -249,6 +255,12 @@ pub(crate) static COMMANDS: [CommandHelp; 7] = [
                 form: Form::Flag,
                 is_required: false,
                 text: "Shows only a table at the end: who sent what, how many messages, bytes and messages a second",
+            },
+            ArgumentHelp {
+                name: "top",
+                form: Form::Flag,
+                is_required: false,
+                text: "Shows this table on a terminal, the most messages first, anew each second, until --seconds or Ctrl-C",
             },
             ArgumentHelp {
                 name: "hex",

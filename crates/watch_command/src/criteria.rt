@@ -4,8 +4,9 @@ ghost use Rattle.std.specs.Prelude.{◌≡◌, ◌↔◌, IsTrue, IfSome, option
 ghost use Rattle.message_view.specs.Message.{Message, sender_of};
 ghost use Rattle.message_view.specs.Valid.{Valid};
 ghost use Rattle.watch_command.specs.Owners.{owns};
-ghost use Rattle.watch_command.specs.Showing.{TakesRule, SomeTakes};
+ghost use Rattle.watch_command.specs.Showing.{TakesRule, SomeTakes, IsTakenByRules};
 
+use crate::expression::Expression;
 use crate::owners::Owners;
 use bpf_machine::run;
 use bpf_verify::Verified;
@@ -22,12 +23,19 @@ pub(crate) struct Program {
     pub(crate) edition: Edition,
 }
 
-/// Which messages are shown: those that one of the rules holds of, or all where there is none, as far as the program
-/// accepts them; or all others.
+/// What accepts messages besides rules.
 #[derive(Drop)]
-pub(crate) struct Filter {
+pub(crate) enum Acceptor {
+    Program(Program),
+    Expression(Expression),
+}
+
+/// Which messages are shown: those that one of the rules holds of, or all where there is none, as far as they are accepted
+/// where something besides rules accepts messages; or all others.
+#[derive(Drop)]
+pub(crate) struct Criteria {
     pub(crate) rules: Vec<Rule>,
-    pub(crate) program: Option<Program>,
+    pub(crate) acceptor: Option<Acceptor>,
     pub(crate) is_inverted: bool,
 }
 
@@ -46,7 +54,28 @@ impl Program {
     }
 }
 
-impl Filter {
+impl Acceptor {
+    ghost use Rattle.message_view.specs.Message.{Message};
+    ghost use Rattle.message_view.specs.Valid.{Valid};
+    ghost use Rattle.watch_command.specs.Owners.{Ownerships};
+    ghost use Rattle.watch_command.specs.Showing.{Accepts};
+
+    /// Whether a message is accepted whose sender owns none of the names that are asked for.
+    fn accepts(&self, view: &View<'_>) -> bool
+        ensures { (m : Message) (owners : Ownerships) → Valid view.now m → Accepts owners m self.now result }
+    {
+        match self {
+            Acceptor::Program(program) => program.accepts(view),
+            Acceptor::Expression(expression) => expression.holds(view),
+        }
+    }
+}
+
+impl Criteria {
+    ghost use Rattle.message_view.specs.Message.{Message};
+    ghost use Rattle.message_view.specs.Valid.{Valid};
+    ghost use Rattle.watch_command.specs.Showing.{Selects, Shows};
+
     /// Why the first rule doesn't hold of a message, in lines with a front before each.
     pub(crate) fn reasons(
         &self,
@@ -63,19 +92,32 @@ impl Filter {
     }
 
     /// Whether a message is shown.
-    pub(crate) fn takes(&self, view: &View<'_>, owners: &Owners) -> bool {
+    pub(crate) fn takes(&self, view: &View<'_>, owners: &Owners) -> bool
+        ensures { (m : Message) → Valid view.now m → Shows owners.now m self.now.rules.items self.now.acceptor self.now.is_inverted result }
+    {
         self.selects(view, owners) != self.is_inverted
     }
 
-    fn selects(&self, view: &View<'_>, owners: &Owners) -> bool {
-        if !self.rules.is_empty() && !some_holds(&self.rules, view, owners) {
+    /// Whether the rules take a message, and it is accepted.
+    #[tactic(auto, using(crate::proofs::Takes::selected))]
+    fn selects(&self, view: &View<'_>, owners: &Owners) -> bool
+        ensures { (m : Message) → Valid view.now m → Selects owners.now m self.now.rules.items self.now.acceptor result }
+    {
+        if !is_taken_by(&self.rules, view, owners) {
             return false;
         }
-        match &self.program {
-            Some(program) => program.accepts(view),
+        match &self.acceptor {
+            Some(acceptor) => acceptor.accepts(view),
             None => true,
         }
     }
+}
+
+/// Whether one of some rules holds of a message, or there are none.
+fn is_taken_by(rules: &[Rule], view: &View<'_>, owners: &Owners) -> bool
+    ensures { (m : Message) → Valid view.now m → (IsTrue result ↔ IsTakenByRules owners.now m rules.now) }
+{
+    rules.is_empty() || some_holds(rules, view, owners)
 }
 
 /// Whether one of some rules holds of a message.

@@ -1,6 +1,6 @@
 use Rattle.watch_command.specs.Sayings.{texts}
 use Rattle.watch_command.proofs.NamesLeft.{name_added}
-use Rattle.watch_command.proofs.options.names_of.Goals as goal
+use Rattle.watch_command.proofs.sayings.names_of.Goals as goal
 
 pub loop-word-preserved : goal.loop-word-preserved
 loop-word-preserved c =

@@ -2,7 +2,7 @@ use Rattle.std.proofs.Common.{refl, subst}
 use Rattle.std.proofs.lemmas.List.{drop_all}
 use Rattle.watch_command.specs.Showing.{SomeTakes, TakesRule}
 use Rattle.watch_command.proofs.Takes.{passed, taken}
-use Rattle.watch_command.proofs.filter.some_holds.Goals as goal
+use Rattle.watch_command.proofs.criteria.some_holds.Goals as goal
 
 pub loop-rule-init : goal.loop-rule-init
 loop-rule-init c = λ m valid. (λ take. take, λ take. take)

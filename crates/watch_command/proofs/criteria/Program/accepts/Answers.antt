@@ -1,6 +1,6 @@
 use Rattle.std.proofs.Common.{ℕ, List, subst, rules}
 use Rattle.bpf_code.specs.Steps.{Ends}
-use Rattle.watch_command.proofs.filter.Program.accepts.Goals as goal
+use Rattle.watch_command.proofs.criteria.Program.accepts.Goals as goal
 
 pub returns : goal.returns
 returns c = λ m valid. record {

@@ -3,7 +3,7 @@ use Rattle.message_view.specs.Message.{sender_of}
 use Rattle.match_rule.specs.RuleTree.{sender_name_of}
 use Rattle.watch_command.specs.Owners.{owns}
 use Rattle.watch_command.proofs.Takes.{agreed}
-use Rattle.watch_command.proofs.filter.rule_holds.Goals as goal
+use Rattle.watch_command.proofs.criteria.rule_holds.Goals as goal
 
 pub returns : goal.returns
 returns c = λ m valid.
