@@ -126,7 +126,7 @@ fn of_filter<F: Files>(
     files: &mut F,
 ) -> Result<Option<String>, AllocError> {
     match (options.text_of(Key::Filter), fault) {
-        (_, FilterFault::SenderName(name)) => Ok(Some(format!(in alloc; "sender, of {name}: who owns a name isn't known to a filter here; a rule may ask for it")?)),
+        (_, FilterFault::SenderName(name)) => Ok(Some(format!(in alloc; "filter: who owns {name} isn't known here; a rule can ask for it as its sender")?)),
         (Some(text), _) => reason_for(alloc, &["compile", "--filter", text], files),
         (None, _) => Ok(None),
     }
