@@ -5,7 +5,7 @@ from . import code
 from .page import Page, code_of
 
 COMMANDS, WATCHING, SECURITY, IMAGE = (f"docs/{it}.md" for it in ("COMMANDS", "WATCHING", "SECURITY", "IMAGE"))
-OPTION = re.compile(r"--[a-z][a-z-]*(?: (?:ADDRESS|GUID|NAME=N|NAME|FILE|N|1\|2)(?!\w))?")
+OPTION = re.compile(r"--[a-z][a-z-]*(?: (?:ADDRESS|GUID|NAME=N|NAME|FILE|EXPR|N|1\|2)(?!\w))?")
 METHOD = re.compile(r"(\w+)\((.*)\)(?: -> (.+))?")
 # The faults of each word, and those that no file of a command can have: a program's file is text, and never bytes.
 FAULTS = {"rule": ("match_key", {"NoMemory"}), "message": ("message_value", set()), "capture": ("captures", set()),

@@ -194,12 +194,10 @@ where
     }
     if options.is_summary() {
         let senders = Senders::new(rt.alloc());
-        return Ok(
-            match screen {
-                Some(screen) => Sink::Top(out, Top::new(senders, screen)),
-                None => Sink::Senders(out, senders),
-            },
-        );
+        return Ok(match screen {
+            Some(screen) => Sink::Top(out, Top::new(senders, screen)),
+            None => Sink::Senders(out, senders),
+        });
     }
     match options.text_of(Key::Write) {
         None => Ok(Sink::Lines(out, form)),

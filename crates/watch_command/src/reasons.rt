@@ -126,7 +126,9 @@ fn of_filter<F: Files>(
     files: &mut F,
 ) -> Result<Option<String>, AllocError> {
     match (options.text_of(Key::Filter), fault) {
-        (_, FilterFault::SenderName(name)) => Ok(Some(format!(in alloc; "filter: who owns {name} isn't known here; a rule can ask for it as its sender")?)),
+        (_, FilterFault::SenderName(name)) => Ok(Some(format!(in alloc;
+            "filter: who owns {name} isn't known here; a rule can ask for it as its sender"
+        )?)),
         (Some(text), _) => reason_for(alloc, &["compile", "--filter", text], files),
         (None, _) => Ok(None),
     }
