@@ -51,7 +51,7 @@ pub record AreByCount (before after : SenderRows) : Type 0 where
   pub names : AreInOrder before named
   pub sorted : IsSortedByKey (λ (row : String Global × Messages). rarity row.1) nat_cmp after
   pub ties : IsStableByKey (λ (row : String Global × Messages). rarity row.1) nat_cmp named after
-  pub same : IsPermutation before after
+  pub same : IsPermutation named after
 
 -- how many messages came in a second, over a time in microseconds
 abbrev pub rate_column : ℕ → ℕ → List ℕ
