@@ -1,5 +1,5 @@
 use Rattle.dbusfan_tool.proofs.Judgements.{of_outcome}
-use Rattle.dbusfan_tool.proofs.filter.Filter.judge.Goals as goal
+use Rattle.dbusfan_tool.proofs.program_judge.ProgramJudge.judge.Goals as goal
 
 pub returns : goal.returns
 returns c judge m serves valid =

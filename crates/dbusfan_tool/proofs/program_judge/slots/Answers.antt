@@ -1,5 +1,5 @@
 use Rattle.std.proofs.Common.{sym, ◌∙◌}
-use Rattle.dbusfan_tool.proofs.filter.slots.Goals as goal
+use Rattle.dbusfan_tool.proofs.program_judge.slots.Goals as goal
 
 pub returns-then-owns-clause-owned : goal.returns-then-owns-clause-owned
 returns-then-owns-clause-owned c = c.insert.ensures.inserted 0 ∙ sym c.if-owns.true

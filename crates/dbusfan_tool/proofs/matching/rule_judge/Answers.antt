@@ -1,5 +1,5 @@
 use Rattle.dbusfan_tool.proofs.Compiled.{not_compiled, of_rule_fault, of_refusal}
-use Rattle.dbusfan_tool.proofs.matching.rule_filter.Goals as goal
+use Rattle.dbusfan_tool.proofs.matching.rule_judge.Goals as goal
 
 pub returns-in_err-rule-clause-fault : goal.returns-in_err-rule-clause-fault
 returns-in_err-rule-clause-fault c =

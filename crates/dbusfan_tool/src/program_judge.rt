@@ -1,13 +1,15 @@
 // What judges messages.
 
-ghost use Rattle.std.specs.Prelude.{◌≡◌, IfOk, option_map, string_bytes};
+ghost use Rattle.std.specs.Prelude.{◌≡◌, Bool, IfOk, option_map, string_bytes};
 ghost use Rattle.message_view.specs.Message.{Message};
 ghost use Rattle.message_view.specs.Valid.{Valid};
 ghost use Rattle.summary.specs.Sets.{has_slot, IsSet};
 ghost use Rattle.rule_compile.specs.Compiled.{IsCompiled};
 ghost use Rattle.dbusfan_tool.specs.Compiling.{slot_for};
-ghost use Rattle.dbusfan_tool.specs.Judges.{Judge, by_rule, by_program, IsOutcome};
-ghost use Rattle.dbusfan_tool.specs.Filters.{Serves, TellsOf};
+ghost use Rattle.filter.specs.FilterTree.{FilterTree};
+ghost use Rattle.filter_compile.specs.Compiled.{AgreeOn, IsCompiled as IsCompiledFilter};
+ghost use Rattle.dbusfan_tool.specs.Judges.{Judge, by_rule, by_filter, by_program, IsOutcome};
+ghost use Rattle.dbusfan_tool.specs.Serving.{Serves, TellsOf};
 
 use crate::compiling::SENDER_SLOT;
 use crate::judgement::Judgement;
@@ -20,9 +22,9 @@ use message_view::View;
 use std::alloc::{AllocError, Global};
 use summary::{Edition, Image, Slots};
 
-/// A program that judges messages, a rule's or one of its own, with the slots that all senders own.
+/// A program that judges messages, that of a rule or a filter or one of its own, with the slots that all senders own.
 #[derive(Drop)]
-pub(crate) struct Filter {
+pub(crate) struct ProgramJudge {
     program: Verified,
     slots: Slots,
     edition: Edition,
@@ -30,19 +32,19 @@ pub(crate) struct Filter {
     why: Option<Why>,
 }
 
-impl Filter {
-    /// The filter of a rule and its program. A text stands before each reason why the rule doesn't match, if reasons are
+impl ProgramJudge {
+    /// The judge of a rule and its program. A text stands before each reason why the rule doesn't match, if reasons are
     /// wanted.
     pub(crate) fn of_rule(
         program: Verified,
         rule: Rule,
         owns: bool,
         front: Option<&'static str>,
-    ) -> Filter
+    ) -> ProgramJudge
         ensures { IsCompiled rule (slot_for rule) program → Serves (by_rule rule owns (option_map (λ text. text.now) front.entry)) result }
     {
         let owned = slots(owns);
-        Filter {
+        ProgramJudge {
             program,
             slots: owned,
             edition: Edition::Two,
@@ -51,12 +53,26 @@ impl Filter {
         }
     }
 
-    /// The filter that a program is, for images of an edition.
-    pub(crate) fn of_program(program: Verified, edition: Edition) -> Filter
+    /// The judge of a filter and its program, where all senders own these slots.
+    pub(crate) fn of_filter(program: Verified, slots: Slots) -> ProgramJudge
+        ensures { (tree : FilterTree) (owns : Bool) → IsCompiledFilter tree program → IsSet slots → AgreeOn tree (λ name. owns) slots → Serves (by_filter tree owns) result }
+    {
+        let edition = Edition::Two;
+        ProgramJudge {
+            program,
+            slots,
+            edition,
+            words: Wording::OfRule,
+            why: None,
+        }
+    }
+
+    /// The judge that a program is, for images of an edition.
+    pub(crate) fn of_program(program: Verified, edition: Edition) -> ProgramJudge
         ensures { Serves (by_program program edition) result }
     {
         let none = Slots::empty();
-        Filter {
+        ProgramJudge {
             program,
             slots: none,
             edition,
