@@ -1,11 +1,12 @@
 # Completion of dbusfan's words in bash.
 _dbusfan_options() {
     case $1 in
-    match) echo --owns --each --why --help ;;
+    match) echo --filter --owns --each --why --help ;;
+    compile) echo --filter --help ;;
     run) echo --edition --each --help ;;
-    asm | check | compile) echo --help ;;
+    asm | check) echo --help ;;
     serve) echo --listen --guid --connections --until-closed --limit --print-address --session --nofork --allow-anonymous --allow-external --log --quiet --help ;;
-    watch) echo --program --edition --attach --monitor --invert --rules --of --calls --slow --patience --summary --why --hex --json --time --clock --full --names --count --seconds --read --write --help ;;
+    watch) echo --program --edition --filter --attach --monitor --invert --rules --of --calls --slow --patience --summary --top --why --hex --json --time --clock --full --names --count --seconds --read --write --help ;;
     esac
 }
 
@@ -21,7 +22,7 @@ _dbusfan() {
     case ${COMP_WORDS[COMP_CWORD - 1]} in
     --edition) names='1 2' ;;
     --listen) names='unix:path= unix:dir= unix:tmpdir= unix:abstract= unix:runtime=yes tcp:host=' ;;
-    --guid | --connections | --of | --slow | --patience | --count | --seconds) return ;;
+    --guid | --connections | --filter | --of | --slow | --patience | --count | --seconds) return ;;
     --program | --read | --rules | --write | = | :) names= ;;
     *)
         names=$(_dbusfan_names "$COMP_CWORD" "$command")

@@ -16,8 +16,8 @@ def branches(text):
 
 
 def options_of(body):
-    """The options in a branch; zsh's completion has that of editions in a variable."""
-    return set(re.findall(r"--[a-z][a-z-]*", body.replace("$edition", "--edition"))) - {"--help"}
+    """The options in a branch; zsh's completion has those of editions and of filters in variables."""
+    return set(re.findall(r"--[a-z][a-z-]*", re.sub(r"\$(edition|filter)\b", r"--\1", body))) - {"--help"}
 
 
 def check(report):

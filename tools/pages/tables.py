@@ -5,11 +5,12 @@ from . import code
 from .page import Page, code_of
 
 COMMANDS, WATCHING, SECURITY, IMAGE = (f"docs/{it}.md" for it in ("COMMANDS", "WATCHING", "SECURITY", "IMAGE"))
-OPTION = re.compile(r"--[a-z][a-z-]*(?: (?:ADDRESS|GUID|NAME=N|NAME|FILE|N|1\|2)(?!\w))?")
+OPTION = re.compile(r"--[a-z][a-z-]*(?: (?:ADDRESS|GUID|NAME=N|NAME|FILE|EXPR|N|1\|2)(?!\w))?")
 METHOD = re.compile(r"(\w+)\((.*)\)(?: -> (.+))?")
 # The faults of each word, and those that no file of a command can have: a program's file is text, and never bytes.
-FAULTS = {"rule": ("match_key", {"NoMemory"}), "message": ("message_value", set()), "capture": ("captures", set()),
-          "code": ("bpf_code", {"NoMemory", "Length", "Code"}), "program": ("bpf_verify", {"NoMemory", "Code"})}
+FAULTS = {"rule": (["match_key"], {"NoMemory"}), "filter": (["filter", "filter_compile"], {"NoMemory"}), "message": (["message_value"], set()),
+          "capture": (["captures"], set()), "code": (["bpf_code"], {"NoMemory", "Length", "Code"}),
+          "program": (["bpf_verify"], {"NoMemory", "Code"})}
 # What `clap` says of words by itself.
 BY_CLAP = ("unexpected argument", "the following required arguments", "unrecognized subcommand")
 # The facts of GetStats that stand apart from those in stats.rt.
@@ -123,9 +124,10 @@ def check_faults(report, page):
     rows = {code_of(cells[0])[0]: (line, cells[1]) for line, cells in table.rows}
     report.check_same(page.at(table.line), "word of faults", rows, FAULTS)
     for word, (line, names) in rows.items():
-        crate, never = FAULTS.get(word, (None, set()))
+        crates, never = FAULTS.get(word, ([], set()))
+        known = {name for crate in crates for name in code.faults(crate)}
         stated = {it.split()[0] for it in code_of(names) if it[0].isupper()}
-        report.check_same(page.at(line), f"fault of a {word}", stated, code.faults(crate) - never if crate else stated)
+        report.check_same(page.at(line), f"fault of a {word}", stated, known - never if crates else stated)
 
 
 def check_statuses(report, page):

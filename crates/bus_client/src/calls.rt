@@ -39,6 +39,8 @@ pub(crate) enum Call<'a> {
     Attach(&'a [u8]),
     /// The same for images of an edition.
     AttachEdition(u32, &'a [u8]),
+    /// A filter expression's text.
+    AttachFilter(&'a str),
 }
 
 /// The bytes of an array of `(qyyu)` and what comes before them, at a place that is a multiple of 8.
@@ -66,7 +68,8 @@ impl<'a> Call<'a> {
                 BUS_INTERFACE,
             Call::GetAllMatchRules => STATS_INTERFACE,
             Call::BecomeMonitor(_) => MONITORING_INTERFACE,
-            Call::Attach(_) | Call::AttachEdition(_, _) => PROGRAM_INTERFACE,
+            Call::Attach(_) | Call::AttachEdition(_, _) | Call::AttachFilter(_) =>
+                PROGRAM_INTERFACE,
         }
     }
 
@@ -80,6 +83,7 @@ impl<'a> Call<'a> {
             Call::BecomeMonitor(_) => "BecomeMonitor",
             Call::Attach(_) => "Attach",
             Call::AttachEdition(_, _) => "AttachEdition",
+            Call::AttachFilter(_) => "AttachFilter",
         }
     }
 
@@ -87,7 +91,8 @@ impl<'a> Call<'a> {
     fn put_arguments(self, alloc: Global, builder: &mut Builder<'_>) -> Result<(), BuildError> {
         match self {
             Call::Hello | Call::ListNames | Call::GetAllMatchRules => Ok(()),
-            Call::AddMatch(text) | Call::GetNameOwner(text) => builder.arg_str(text),
+            Call::AddMatch(text) | Call::GetNameOwner(text) | Call::AttachFilter(text) =>
+                builder.arg_str(text),
             Call::BecomeMonitor(rules) => {
                 builder.arg_strs(rules)?;
                 builder.arg_u32(NO_FLAGS)

@@ -151,6 +151,16 @@ impl<S: Read + Write + Drop> Client<S> {
         Ok(())
     }
 
+    /// Attaches a filter expression, which the bus compiles.
+    ///
+    /// # Errors
+    ///
+    /// `Answered` where the bus refuses it or knows no filters, and others.
+    pub fn attach_filter(&mut self, text: &str) -> Result<(), ClientError> {
+        self.call(Call::AttachFilter(text))?;
+        Ok(())
+    }
+
     /// The stream that the client talks by.
     pub fn stream_mut(&mut self) -> &mut S {
         &mut self.stream

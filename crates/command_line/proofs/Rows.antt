@@ -7,30 +7,75 @@ use Rattle.summary.specs.declared.edition.Edition.{Edition}
 use Rattle.summary.specs.declared.edition.Edition.TheVariants.{One, Two}
 use Rattle.command_line.specs.declared.command_row.CommandRow.{CommandRow}
 use Rattle.command_line.specs.declared.gathered.Awaited.{Awaited}
-use Rattle.command_line.specs.declared.gathered.Awaited.TheVariants.{AnyWord, EditionWord, NameAlone}
+use Rattle.command_line.specs.declared.gathered.Awaited.TheVariants.{AnyWord, EditionWord, FilterWord, NameAlone}
 use Rattle.std.proofs.Math.Bool.{or-false}
 use Rattle.std.proofs.lemmas.Bool.{cases_Bool, false_from_ne_true}
 use Rattle.std.proofs.lemmas.Bool.Decides.{Decides-ltb}
 use Rattle.std.proofs.lemmas.Slice.Eq.{bytes_eq-Decides}
-use Rattle.command_line.specs.CommandRow.{match_word, asm_word, check_word, compile_word, run_word, owns_word, each_word, why_word, edition_word, word_of_edition, end_word, is_option, is_input, Options, no_options, Spells, nothing, ended, named, owned, eached, whyed, in_edition, Asked, to_match, to_asm, to_check, to_compile, to_run, IsRow, match_row, asm_row, check_row, compile_row, run_row}
+use Rattle.command_line.specs.CommandRow.{match_word, asm_word, check_word, compile_word, run_word, owns_word, each_word, why_word, edition_word, filter_word, word_of_edition, end_word, is_option, is_input, Options, no_options, Spells, nothing, ended, named, owned, eached, whyed, in_edition, by_filter, Asked, to_match, to_match_filter, to_asm, to_check, to_compile, to_compile_filter, to_run, IsRow, match_row, match_filter_row, asm_row, check_row, compile_row, compile_filter_row, run_row}
 use Rattle.command_line.specs.Views.{asked_by}
-use Rattle.command_line.specs.RowReading.{Gathering, no_words, with_name, with_owns, with_each, with_why, with_edition, edition_of, gather, match_of, only_word, run_of, asked_of, asked_in}
+use Rattle.command_line.specs.RowReading.{Gathering, no_words, with_name, with_owns, with_each, with_why, with_edition, with_filter, edition_of, gather, match_of, compile_of, only_word, run_of, asked_of, asked_in}
 
 abbrev Words : Type 0
 Words = List (List ℕ)
 
 -- a gathering, by its parts
-abbrev having : Words → Bool → Bool → Bool → Option Edition → Awaited → Gathering
-having names owns each why edition awaited = record { names = names; owns = owns; each = each; why = why; edition = edition; awaited = awaited }
+abbrev having : Words → Options → Awaited → Gathering
+having names options awaited = record { names = names; options = options; awaited = awaited }
 
--- the edition that was given, or else this
-abbrev either : Option Edition → Option Edition → Option Edition
-either (Some edition) other = Some edition
+-- what was given, or else the other
+abbrev either : {A : Type 0} → Option A → Option A → Option A
+either (Some a) other = Some a
 either None other = other
 
-either-none : (edition : Option Edition) → either edition None ≡ edition
-either-none (Some edition) = refl
+either-none : {A : Type 0} (given : Option A) → either given None ≡ given
+either-none (Some a) = refl
 either-none None = refl
+
+-- the options that were given before, and those that come later
+abbrev joined : Options → Options → Options
+joined before later = record {
+  owns = before.owns || later.owns;
+  each = before.each || later.each;
+  why = before.why || later.why;
+  edition = either before.edition later.edition;
+  filter = either before.filter later.filter;
+}
+
+-- none of them is given twice
+record Apart (before later : Options) : Type 0 where
+  owns : (before.owns && later.owns) ≡ false
+  each : (before.each && later.each) ≡ false
+  why : (before.why && later.why) ≡ false
+  edition : (is_some before.edition && is_some later.edition) ≡ false
+  filter : (is_some before.filter && is_some later.filter) ≡ false
+
+joined_none : (before : Options) → joined before no_options ≡ before
+joined_none before = rw (or-false before.owns, or-false before.each, or-false before.why, either-none before.edition, either-none before.filter) refl
+
+and_false : (b : Bool) → (b && false) ≡ false
+and_false true = refl
+and_false false = refl
+
+apart_none : (before : Options) → Apart before no_options
+apart_none before = record { owns = and_false before.owns; each = and_false before.each; why = and_false before.why; edition = and_false (is_some before.edition); filter = and_false (is_some before.filter) }
+
+apart_first : (later : Options) → Apart no_options later
+apart_first later = record { owns = refl; each = refl; why = refl; edition = refl; filter = refl }
+
+-- what is given later wasn't given before
+not_before : (b : Bool) → (b && true) ≡ false → b ≡ false
+not_before true e = absurd (cc)
+not_before false e = refl
+
+none_before : {A : Type 0} (given : Option A) → (is_some given && true) ≡ false → given ≡ None
+none_before (Some a) e = absurd (cc)
+none_before None e = refl
+
+-- what was given before isn't given later
+none_beside : {A : Type 0} (given : Option A) → (true && is_some given) ≡ false → given ≡ None
+none_beside None alone = refl
+none_beside (Some a) alone = absurd (cc)
 
 -- the word of an edition says it
 said_edition : (edition : Edition) → edition_of (word_of_edition edition) ≡ Some edition
@@ -57,12 +102,12 @@ word_said word edition e =
     ]
 
 -- after `--`
-ended_names : (front words : Words) (owns each why : Bool) (edition : Option Edition) → length front + length words ≤ 2 → gather (having front owns each why edition NameAlone) words ≡ Some (having (front ++ words) owns each why edition NameAlone)
-ended_names front [] owns each why edition fits = ap (λ all. Some (having all owns each why edition NameAlone)) (sym (append-nil front))
-ended_names front (word ∷ words) owns each why edition fits =
+ended_names : (front words : Words) (options : Options) → length front + length words ≤ 2 → gather (having front options NameAlone) words ≡ Some (having (front ++ words) options NameAlone)
+ended_names front [] options fits = ap (λ all. Some (having all options NameAlone)) (sym (append-nil front))
+ended_names front (word ∷ words) options fits =
     let room : nat_lt (length front) 2 ≡ true = (Decides-ltb (length front) 2).1 (omega arith) in
-    let rest = ended_names (front ++ word ∷ []) words owns each why edition (simp length-append (omega arith)) in
-    rw room (rest ∙ ap (λ all. Some (having all owns each why edition NameAlone)) (append_assoc front (word ∷ []) words))
+    let rest = ended_names (front ++ word ∷ []) words options (simp length-append (omega arith)) in
+    rw room (rest ∙ ap (λ all. Some (having all options NameAlone)) (append_assoc front (word ∷ []) words))
 
 -- a word that is no option is none of them
 other_word : (word known : List ℕ) → is_option known ≡ true → is_option word ≡ false → bytes_eq word known ≡ false
@@ -70,203 +115,239 @@ other_word word known option plain =
     false_from_ne_true (bytes_eq word known) (λ same. let e = (bytes_eq-Decides word known).0 same in cc)
 
 -- The words after a command are gathered as they are spelled, with a front and options that were gathered before.
-spelled : {options : Options} {names words : Words} → Spells options names words → (front : Words) (owns each why : Bool) (edition : Option Edition) → length front + length names ≤ 2 → (owns && options.owns) ≡ false → (each && options.each) ≡ false → (why && options.why) ≡ false → (is_some edition && is_some options.edition) ≡ false → (awaited : Awaited) × (gather (having front owns each why edition AnyWord) words ≡ Some (having (front ++ names) (owns || options.owns) (each || options.each) (why || options.why) (either edition options.edition) awaited))
-spelled nothing front owns each why edition fits once single lone apart = (AnyWord, rw (append-nil front, or-false owns, or-false each, or-false why, either-none edition) refl)
-spelled (ended {words = words}) front owns each why edition fits once single lone apart = (NameAlone, rw (or-false owns, or-false each, or-false why, either-none edition) (ended_names front words owns each why edition fits))
-spelled (named {options = options} {word = word} {names = names} plain rest) front owns each why edition fits once single lone apart =
+spelled : {later : Options} {names words : Words} → Spells later names words → (front : Words) (before : Options) → length front + length names ≤ 2 → Apart before later → (awaited : Awaited) × (gather (having front before AnyWord) words ≡ Some (having (front ++ names) (joined before later) awaited))
+spelled nothing front before fits apart = (AnyWord, rw (append-nil front, joined_none before) refl)
+spelled (ended {words = words}) front before fits apart = (NameAlone, rw (joined_none before) (ended_names front words before fits))
+spelled (named {options = later} {word = word} {names = names} plain rest) front before fits apart =
     let room : nat_lt (length front) 2 ≡ true = (Decides-ltb (length front) 2).1 (omega arith) in
-    let read = spelled rest (front ++ word ∷ []) owns each why edition (simp length-append (omega arith)) once single lone apart in
+    let read = spelled rest (front ++ word ∷ []) before (simp length-append (omega arith)) apart in
     let no_end = other_word word end_word refl plain in
     let no_owns = other_word word owns_word refl plain in
     let no_each = other_word word each_word refl plain in
     let no_why = other_word word why_word refl plain in
     let no_edition = other_word word edition_word refl plain in
-    (read.0, rw (no_end, no_owns, no_each, no_why, no_edition, plain, room) (read.1 ∙ ap (λ all. Some (having all (owns || options.owns) (each || options.each) (why || options.why) (either edition options.edition) read.0)) (append_assoc front (word ∷ []) names)))
-spelled (owned fresh rest) front true each why edition fits once single lone apart = absurd (cc)
-spelled (owned fresh rest) front false each why edition fits once single lone apart = spelled rest front true each why edition fits fresh single lone apart
-spelled (eached fresh rest) front owns true why edition fits once single lone apart = absurd (cc)
-spelled (eached fresh rest) front owns false why edition fits once single lone apart = spelled rest front owns true why edition fits once fresh lone apart
-spelled (whyed fresh rest) front owns each true edition fits once single lone apart = absurd (cc)
-spelled (whyed fresh rest) front owns each false edition fits once single lone apart = spelled rest front owns each true edition fits once single fresh apart
-spelled (in_edition fresh rest) front owns each why (Some edition) fits once single lone apart = absurd (cc)
-spelled (in_edition {options = options} {edition = value} fresh rest) front owns each why None fits once single lone apart =
-    let read = spelled rest front owns each why (Some value) fits once single lone (rw fresh refl) in
-    (read.0, rw (said_edition value) read.1)
+    let no_filter = other_word word filter_word refl plain in
+    (read.0, rw (no_end, no_owns, no_each, no_why, no_edition, no_filter, plain, room) (read.1 ∙ ap (λ all. Some (having all (joined before later) read.0)) (append_assoc front (word ∷ []) names)))
+spelled (owned {options = later} fresh rest) front before fits apart =
+    let none : before.owns ≡ false = not_before before.owns apart.owns in
+    let read = spelled rest front (record before { owns = true }) fits (record { owns = fresh; each = apart.each; why = apart.why; edition = apart.edition; filter = apart.filter }) in
+    (read.0, rw none read.1)
+spelled (eached {options = later} fresh rest) front before fits apart =
+    let none : before.each ≡ false = not_before before.each apart.each in
+    let read = spelled rest front (record before { each = true }) fits (record { owns = apart.owns; each = fresh; why = apart.why; edition = apart.edition; filter = apart.filter }) in
+    (read.0, rw none read.1)
+spelled (whyed {options = later} fresh rest) front before fits apart =
+    let none : before.why ≡ false = not_before before.why apart.why in
+    let read = spelled rest front (record before { why = true }) fits (record { owns = apart.owns; each = apart.each; why = fresh; edition = apart.edition; filter = apart.filter }) in
+    (read.0, rw none read.1)
+spelled (in_edition {options = later} {edition = value} fresh rest) front before fits apart =
+    let none : before.edition ≡ None = none_before before.edition apart.edition in
+    let read = spelled rest front (record before { edition = Some value }) fits (record { owns = apart.owns; each = apart.each; why = apart.why; edition = rw fresh refl; filter = apart.filter }) in
+    (read.0, rw (none, said_edition value) read.1)
+spelled (by_filter {options = later} {expression = value} fresh rest) front before fits apart =
+    let none : before.filter ≡ None = none_before before.filter apart.filter in
+    let read = spelled rest front (record before { filter = Some value }) fits (record { owns = apart.owns; each = apart.each; why = apart.why; edition = apart.edition; filter = rw fresh refl }) in
+    (read.0, rw none read.1)
 
 -- what a gathering that began with a front and with options says of the words after them
-record Found (front : Words) (owns each why : Bool) (edition : Option Edition) (words : Words) (all : Gathering) : Type 0 where
+record Found (front : Words) (before : Options) (words : Words) (all : Gathering) : Type 0 where
   options : Options
   names : Words
   spells : Spells options names words
   all_names : all.names ≡ front ++ names
-  all_owns : all.owns ≡ (owns || options.owns)
-  all_each : all.each ≡ (each || options.each)
-  all_why : all.why ≡ (why || options.why)
-  all_edition : all.edition ≡ either edition options.edition
-  once : (owns && options.owns) ≡ false
-  single : (each && options.each) ≡ false
-  lone : (why && options.why) ≡ false
-  apart : (is_some edition && is_some options.edition) ≡ false
+  all_options : all.options ≡ joined before options
+  apart : Apart before options
 
 abbrev IsFound : Words → Type 0
-IsFound words = (front : Words) (owns each why : Bool) (edition : Option Edition) (all : Gathering) → gather (having front owns each why edition AnyWord) words ≡ Some all → Found front owns each why edition words all
+IsFound words = (front : Words) (before : Options) (all : Gathering) → gather (having front before AnyWord) words ≡ Some all → Found front before words all
 
 -- a front, and the word of an edition
-record FoundAfter (front : Words) (owns each why : Bool) (words : Words) (all : Gathering) : Type 0 where
+record FoundEdition (front : Words) (before : Options) (words : Words) (all : Gathering) : Type 0 where
   edition : Edition
   tail : Words
   words_are : words ≡ word_of_edition edition ∷ tail
-  rest : Found front owns each why (Some edition) tail all
+  rest : Found front (record before { edition = Some edition }) tail all
 
-abbrev IsFoundAfter : Words → Type 0
-IsFoundAfter words = (front : Words) (owns each why : Bool) (all : Gathering) → gather (having front owns each why None EditionWord) words ≡ Some all → FoundAfter front owns each why words all
+abbrev IsFoundEdition : Words → Type 0
+IsFoundEdition words = (front : Words) (before : Options) (all : Gathering) → gather (having front before EditionWord) words ≡ Some all → FoundEdition front before words all
 
-ended_found : (front words : Words) (owns each why : Bool) (edition : Option Edition) (all : Gathering) → gather (having front owns each why edition NameAlone) words ≡ Some all → (all.names ≡ front ++ words) × (all.owns ≡ owns) × (all.each ≡ each) × (all.why ≡ why) × (all.edition ≡ edition)
-ended_found front [] owns each why edition all e = (rw append-nil (cc), cc, cc, cc, cc)
-ended_found front (word ∷ words) owns each why edition all e =
+-- a front, and an expression
+record FoundFilter (front : Words) (before : Options) (words : Words) (all : Gathering) : Type 0 where
+  expression : List ℕ
+  tail : Words
+  words_are : words ≡ expression ∷ tail
+  rest : Found front (record before { filter = Some expression }) tail all
+
+abbrev IsFoundFilter : Words → Type 0
+IsFoundFilter words = (front : Words) (before : Options) (all : Gathering) → gather (having front before FilterWord) words ≡ Some all → FoundFilter front before words all
+
+ended_found : (front words : Words) (before : Options) (all : Gathering) → gather (having front before NameAlone) words ≡ Some all → (all.names ≡ front ++ words) × (all.options ≡ before)
+ended_found front [] before all e = (rw append-nil (cc), cc)
+ended_found front (word ∷ words) before all e =
     elim (cases_Bool (nat_lt (length front) 2)) [
       | inl room ↦
-          let rest = ended_found (front ++ word ∷ []) words owns each why edition all (rw room at e) in
-          (rest.0 ∙ append_assoc front (word ∷ []) words, rest.1, rest.2, rest.3, rest.4)
+          let rest = ended_found (front ++ word ∷ []) words before all (rw room at e) in
+          (rest.0 ∙ append_assoc front (word ∷ []) words, rest.1)
       | inr full ↦ let none : None ≡ Some all = rw full at e in absurd (cc)
     ]
 
-and_false : (b : Bool) → (b && false) ≡ false
-and_false true = refl
-and_false false = refl
+end_found : (front words : Words) (before : Options) (all : Gathering) → gather (having front before NameAlone) words ≡ Some all → Found front before (end_word ∷ words) all
+end_found front words before all e =
+    let rest = ended_found front words before all e in
+    record { options = no_options; names = words; spells = ended; all_names = rest.0; all_options = rest.1 ∙ sym (joined_none before); apart = apart_none before }
 
-end_found : (front words : Words) (owns each why : Bool) (edition : Option Edition) (all : Gathering) → gather (having front owns each why edition NameAlone) words ≡ Some all → Found front owns each why edition (end_word ∷ words) all
-end_found front words owns each why edition all e =
-    let rest = ended_found front words owns each why edition all e in
-    record { options = no_options; names = words; spells = ended; all_names = rest.0; all_owns = rest.1 ∙ sym (or-false owns); all_each = rest.2 ∙ sym (or-false each); all_why = rest.3 ∙ sym (or-false why); all_edition = rest.4 ∙ sym (either-none edition); once = and_false owns; single = and_false each; lone = and_false why; apart = and_false (is_some edition) }
+owns_found : (front words : Words) (before : Options) (all : Gathering) → IsFound words → option_and_then (λ next. gather next words) (with_owns (having front before AnyWord)) ≡ Some all → Found front before (owns_word ∷ words) all
+owns_found front words before all rest e =
+    elim (cases_Bool before.owns) [
+      | inl given ↦ let none : None ≡ Some all = rw given at e in absurd (cc)
+      | inr none ↦
+          let tail = rest front (record before { owns = true }) all (rw none at e) in
+          record { options = record tail.options { owns = true }; names = tail.names; spells = owned tail.apart.owns tail.spells; all_names = tail.all_names; all_options = rw none tail.all_options; apart = record { owns = rw none refl; each = tail.apart.each; why = tail.apart.why; edition = tail.apart.edition; filter = tail.apart.filter } }
+    ]
 
-owns_found : (front words : Words) (owns each why : Bool) (edition : Option Edition) (all : Gathering) → IsFound words → option_and_then (λ next. gather next words) (with_owns (having front owns each why edition AnyWord)) ≡ Some all → Found front owns each why edition (owns_word ∷ words) all
-owns_found front words true each why edition all rest e = absurd (cc)
-owns_found front words false each why edition all rest e =
-    let tail = rest front true each why edition all e in
-    record { options = record { owns = true; each = tail.options.each; why = tail.options.why; edition = tail.options.edition }; names = tail.names; spells = owned tail.once tail.spells; all_names = tail.all_names; all_owns = tail.all_owns; all_each = tail.all_each; all_why = tail.all_why; all_edition = tail.all_edition; once = refl; single = tail.single; lone = tail.lone; apart = tail.apart }
+each_found : (front words : Words) (before : Options) (all : Gathering) → IsFound words → option_and_then (λ next. gather next words) (with_each (having front before AnyWord)) ≡ Some all → Found front before (each_word ∷ words) all
+each_found front words before all rest e =
+    elim (cases_Bool before.each) [
+      | inl given ↦ let none : None ≡ Some all = rw given at e in absurd (cc)
+      | inr none ↦
+          let tail = rest front (record before { each = true }) all (rw none at e) in
+          record { options = record tail.options { each = true }; names = tail.names; spells = eached tail.apart.each tail.spells; all_names = tail.all_names; all_options = rw none tail.all_options; apart = record { owns = tail.apart.owns; each = rw none refl; why = tail.apart.why; edition = tail.apart.edition; filter = tail.apart.filter } }
+    ]
 
-each_found : (front words : Words) (owns each why : Bool) (edition : Option Edition) (all : Gathering) → IsFound words → option_and_then (λ next. gather next words) (with_each (having front owns each why edition AnyWord)) ≡ Some all → Found front owns each why edition (each_word ∷ words) all
-each_found front words owns true why edition all rest e = absurd (cc)
-each_found front words owns false why edition all rest e =
-    let tail = rest front owns true why edition all e in
-    record { options = record { owns = tail.options.owns; each = true; why = tail.options.why; edition = tail.options.edition }; names = tail.names; spells = eached tail.single tail.spells; all_names = tail.all_names; all_owns = tail.all_owns; all_each = tail.all_each; all_why = tail.all_why; all_edition = tail.all_edition; once = tail.once; single = refl; lone = tail.lone; apart = tail.apart }
+why_found : (front words : Words) (before : Options) (all : Gathering) → IsFound words → option_and_then (λ next. gather next words) (with_why (having front before AnyWord)) ≡ Some all → Found front before (why_word ∷ words) all
+why_found front words before all rest e =
+    elim (cases_Bool before.why) [
+      | inl given ↦ let none : None ≡ Some all = rw given at e in absurd (cc)
+      | inr none ↦
+          let tail = rest front (record before { why = true }) all (rw none at e) in
+          record { options = record tail.options { why = true }; names = tail.names; spells = whyed tail.apart.why tail.spells; all_names = tail.all_names; all_options = rw none tail.all_options; apart = record { owns = tail.apart.owns; each = tail.apart.each; why = rw none refl; edition = tail.apart.edition; filter = tail.apart.filter } }
+    ]
 
-why_found : (front words : Words) (owns each why : Bool) (edition : Option Edition) (all : Gathering) → IsFound words → option_and_then (λ next. gather next words) (with_why (having front owns each why edition AnyWord)) ≡ Some all → Found front owns each why edition (why_word ∷ words) all
-why_found front words owns each true edition all rest e = absurd (cc)
-why_found front words owns each false edition all rest e =
-    let tail = rest front owns each true edition all e in
-    record { options = record { owns = tail.options.owns; each = tail.options.each; why = true; edition = tail.options.edition }; names = tail.names; spells = whyed tail.lone tail.spells; all_names = tail.all_names; all_owns = tail.all_owns; all_each = tail.all_each; all_why = tail.all_why; all_edition = tail.all_edition; once = tail.once; single = tail.single; lone = refl; apart = tail.apart }
-
--- an edition is given once at most
-none_beside : (edition : Option Edition) → (true && is_some edition) ≡ false → edition ≡ None
-none_beside None alone = refl
-none_beside (Some edition) alone = absurd (cc)
-
-edition_found : (front words : Words) (owns each why : Bool) (edition : Option Edition) (all : Gathering) → IsFoundAfter words → option_and_then (λ next. gather next words) (with_edition (having front owns each why edition AnyWord)) ≡ Some all → Found front owns each why edition (edition_word ∷ words) all
-edition_found front words owns each why (Some edition) all rest e = absurd (cc)
-edition_found front words owns each why None all rest e =
-    let said = rest front owns each why all e in
+edition_found : (front words : Words) (before : Options) (all : Gathering) → IsFoundEdition words → (given : Option Edition) → before.edition ≡ given → option_and_then (λ next. gather next words) (with_edition (having front before AnyWord)) ≡ Some all → Found front before (edition_word ∷ words) all
+edition_found front words before all rest (Some edition) is e = let none : None ≡ Some all = rw is at e in absurd (cc)
+edition_found front words before all rest None is e =
+    let said = rest front (record before { edition = None }) all (rw is at e) in
     let tail = said.rest in
-    let spells : Spells (record { owns = tail.options.owns; each = tail.options.each; why = tail.options.why; edition = Some said.edition }) tail.names (edition_word ∷ word_of_edition said.edition ∷ said.tail) = in_edition (none_beside tail.options.edition tail.apart) tail.spells in
-    record { options = record { owns = tail.options.owns; each = tail.options.each; why = tail.options.why; edition = Some said.edition }; names = tail.names; spells = subst (λ (words : Words). Spells (record { owns = tail.options.owns; each = tail.options.each; why = tail.options.why; edition = Some said.edition }) tail.names (edition_word ∷ words)) (sym said.words_are) spells; all_names = tail.all_names; all_owns = tail.all_owns; all_each = tail.all_each; all_why = tail.all_why; all_edition = tail.all_edition; once = tail.once; single = tail.single; lone = tail.lone; apart = refl }
+    let options : Options = record tail.options { edition = Some said.edition } in
+    let spells : Spells options tail.names (edition_word ∷ word_of_edition said.edition ∷ said.tail) = in_edition (none_beside tail.options.edition tail.apart.edition) tail.spells in
+    record { options = options; names = tail.names; spells = subst (λ (words : Words). Spells options tail.names (edition_word ∷ words)) (sym said.words_are) spells; all_names = tail.all_names; all_options = rw is tail.all_options; apart = record { owns = tail.apart.owns; each = tail.apart.each; why = tail.apart.why; edition = rw is refl; filter = tail.apart.filter } }
 
-name_found : (front : Words) (word : List ℕ) (words : Words) (owns each why : Bool) (edition : Option Edition) (all : Gathering) → is_option word ≡ false → IsFound words → option_and_then (λ next. gather next words) (with_name word (having front owns each why edition AnyWord)) ≡ Some all → Found front owns each why edition (word ∷ words) all
-name_found front word words owns each why edition all plain rest e =
+filter_found : (front words : Words) (before : Options) (all : Gathering) → IsFoundFilter words → (given : Option (List ℕ)) → before.filter ≡ given → option_and_then (λ next. gather next words) (with_filter (having front before AnyWord)) ≡ Some all → Found front before (filter_word ∷ words) all
+filter_found front words before all rest (Some expression) is e = let none : None ≡ Some all = rw is at e in absurd (cc)
+filter_found front words before all rest None is e =
+    let said = rest front (record before { filter = None }) all (rw is at e) in
+    let tail = said.rest in
+    let options : Options = record tail.options { filter = Some said.expression } in
+    let spells : Spells options tail.names (filter_word ∷ said.expression ∷ said.tail) = by_filter (none_beside tail.options.filter tail.apart.filter) tail.spells in
+    record { options = options; names = tail.names; spells = subst (λ (words : Words). Spells options tail.names (filter_word ∷ words)) (sym said.words_are) spells; all_names = tail.all_names; all_options = rw is tail.all_options; apart = record { owns = tail.apart.owns; each = tail.apart.each; why = tail.apart.why; edition = tail.apart.edition; filter = rw is refl } }
+
+name_found : (front : Words) (word : List ℕ) (words : Words) (before : Options) (all : Gathering) → is_option word ≡ false → IsFound words → option_and_then (λ next. gather next words) (with_name word (having front before AnyWord)) ≡ Some all → Found front before (word ∷ words) all
+name_found front word words before all plain rest e =
     elim (cases_Bool (nat_lt (length front) 2)) [
       | inl room ↦
-          let tail = rest (front ++ word ∷ []) owns each why edition all (rw room at e) in
-          record { options = tail.options; names = word ∷ tail.names; spells = named plain tail.spells; all_names = tail.all_names ∙ append_assoc front (word ∷ []) tail.names; all_owns = tail.all_owns; all_each = tail.all_each; all_why = tail.all_why; all_edition = tail.all_edition; once = tail.once; single = tail.single; lone = tail.lone; apart = tail.apart }
+          let tail = rest (front ++ word ∷ []) before all (rw room at e) in
+          record { options = tail.options; names = word ∷ tail.names; spells = named plain tail.spells; all_names = tail.all_names ∙ append_assoc front (word ∷ []) tail.names; all_options = tail.all_options; apart = tail.apart }
       | inr full ↦ let none : None ≡ Some all = rw full at e in absurd (cc)
     ]
 
-any_found : (word : List ℕ) (words : Words) → IsFound words → IsFoundAfter words → IsFound (word ∷ words)
-any_found word words rest tail front owns each why edition all e =
+any_found : (word : List ℕ) (words : Words) → IsFound words → IsFoundEdition words → IsFoundFilter words → IsFound (word ∷ words)
+any_found word words rest of_edition of_filter front before all e =
     elim (cases_Bool (bytes_eq word end_word)) [
-      | inl same ↦
-          let is : word ≡ end_word = (bytes_eq-Decides word end_word).0 same in
-          subst (λ (x : List ℕ). Found front owns each why edition (x ∷ words) all) (sym is) (end_found front words owns each why edition all (rw same at e))
+      | inl same ↦ as_known end_word same (end_found front words before all (rw same at e))
       | inr no_end ↦ elim (cases_Bool (bytes_eq word owns_word)) [
-        | inl same ↦
-            let is : word ≡ owns_word = (bytes_eq-Decides word owns_word).0 same in
-            subst (λ (x : List ℕ). Found front owns each why edition (x ∷ words) all) (sym is) (owns_found front words owns each why edition all rest (rw (no_end, same) at e))
+        | inl same ↦ as_known owns_word same (owns_found front words before all rest (rw (no_end, same) at e))
         | inr no_owns ↦ elim (cases_Bool (bytes_eq word each_word)) [
-          | inl same ↦
-              let is : word ≡ each_word = (bytes_eq-Decides word each_word).0 same in
-              subst (λ (x : List ℕ). Found front owns each why edition (x ∷ words) all) (sym is) (each_found front words owns each why edition all rest (rw (no_end, no_owns, same) at e))
+          | inl same ↦ as_known each_word same (each_found front words before all rest (rw (no_end, no_owns, same) at e))
           | inr no_each ↦ elim (cases_Bool (bytes_eq word why_word)) [
-            | inl same ↦
-                let is : word ≡ why_word = (bytes_eq-Decides word why_word).0 same in
-                subst (λ (x : List ℕ). Found front owns each why edition (x ∷ words) all) (sym is) (why_found front words owns each why edition all rest (rw (no_end, no_owns, no_each, same) at e))
+            | inl same ↦ as_known why_word same (why_found front words before all rest (rw (no_end, no_owns, no_each, same) at e))
             | inr no_why ↦ elim (cases_Bool (bytes_eq word edition_word)) [
-              | inl same ↦
-                  let is : word ≡ edition_word = (bytes_eq-Decides word edition_word).0 same in
-                  subst (λ (x : List ℕ). Found front owns each why edition (x ∷ words) all) (sym is) (edition_found front words owns each why edition all tail (rw (no_end, no_owns, no_each, no_why, same) at e))
-              | inr no_edition ↦ elim (cases_Bool (is_option word)) [
-                | inl option ↦ let none : None ≡ Some all = rw (no_end, no_owns, no_each, no_why, no_edition, option) at e in absurd (cc)
-                | inr plain ↦ name_found front word words owns each why edition all plain rest (rw (no_end, no_owns, no_each, no_why, no_edition, plain) at e)
+              | inl same ↦ as_known edition_word same (edition_found front words before all of_edition before.edition refl (rw (no_end, no_owns, no_each, no_why, same) at e))
+              | inr no_edition ↦ elim (cases_Bool (bytes_eq word filter_word)) [
+                | inl same ↦ as_known filter_word same (filter_found front words before all of_filter before.filter refl (rw (no_end, no_owns, no_each, no_why, no_edition, same) at e))
+                | inr no_filter ↦ elim (cases_Bool (is_option word)) [
+                  | inl option ↦ let none : None ≡ Some all = rw (no_end, no_owns, no_each, no_why, no_edition, no_filter, option) at e in absurd (cc)
+                  | inr plain ↦ name_found front word words before all plain rest (rw (no_end, no_owns, no_each, no_why, no_edition, no_filter, plain) at e)
+                ]
               ]
             ]
           ]
         ]
       ]
     ]
+  where
+    as_known : (known : List ℕ) → bytes_eq word known ≡ true → Found front before (known ∷ words) all → Found front before (word ∷ words) all
+    as_known known same found =
+        let is : word ≡ known = (bytes_eq-Decides word known).0 same in
+        subst (λ (x : List ℕ). Found front before (x ∷ words) all) (sym is) found
 
-said_found : (front : Words) (word : List ℕ) (words : Words) (owns each why : Bool) (said : Option Edition) (all : Gathering) → edition_of word ≡ said → IsFound words → option_and_then (λ next. gather next words) (option_map (λ edition. having front owns each why (Some edition) AnyWord) said) ≡ Some all → FoundAfter front owns each why (word ∷ words) all
-said_found front word words owns each why None all is rest e = absurd (cc)
-said_found front word words owns each why (Some edition) all is rest e =
-    record { edition = edition; tail = words; words_are = ap (λ (x : List ℕ). x ∷ words) (word_said word edition is); rest = rest front owns each why (Some edition) all e }
+said_found : (front : Words) (word : List ℕ) (words : Words) (before : Options) (said : Option Edition) (all : Gathering) → edition_of word ≡ said → IsFound words → option_and_then (λ next. gather next words) (option_map (λ edition. having front (record before { edition = Some edition }) AnyWord) said) ≡ Some all → FoundEdition front before (word ∷ words) all
+said_found front word words before None all is rest e = absurd (cc)
+said_found front word words before (Some edition) all is rest e =
+    record { edition = edition; tail = words; words_are = ap (λ (x : List ℕ). x ∷ words) (word_said word edition is); rest = rest front (record before { edition = Some edition }) all e }
 
-found : (words : Words) → IsFound words × IsFoundAfter words
+found : (words : Words) → IsFound words × IsFoundEdition words × IsFoundFilter words
 found [] = (
-  λ front owns each why edition all e. record { options = no_options; names = []; spells = nothing; all_names = rw append-nil (cc); all_owns = rw or-false (cc); all_each = rw or-false (cc); all_why = rw or-false (cc); all_edition = rw either-none (cc); once = and_false owns; single = and_false each; lone = and_false why; apart = and_false (is_some edition) },
-  λ front owns each why all e. absurd (cc),
+  λ front before all e. record { options = no_options; names = []; spells = nothing; all_names = rw append-nil (cc); all_options = rw (joined_none before) (cc); apart = apart_none before },
+  λ front before all e. absurd (cc),
+  λ front before all e. absurd (cc),
 )
 found (word ∷ words) =
     let rest = found words in (
-      any_found word words rest.0 rest.1,
-      λ front owns each why all e. said_found front word words owns each why (edition_of word) all refl rest.0 e,
+      any_found word words rest.0 rest.1 rest.2,
+      λ front before all e. said_found front word words before (edition_of word) all refl rest.0 e,
+      λ front before all e. record { expression = word; tail = words; words_are = refl; rest = rest.0 front (record before { filter = Some word }) all e },
     )
 
--- Two words after `match` are its row.
-row_of_names : (asked : Asked) (names words : Words) (owns each why : Bool) (edition : Option Edition) → Spells (record { owns = owns; each = each; why = why; edition = edition }) names words → match_of names owns each why edition ≡ Some asked → IsRow asked (match_word ∷ words)
-row_of_names asked [] words owns each why edition spells e = absurd (cc)
-row_of_names asked (rule ∷ []) words owns each why edition spells e = absurd (cc)
-row_of_names asked (rule ∷ file ∷ []) words owns each why (Some edition) spells e = absurd (cc)
-row_of_names asked (rule ∷ file ∷ []) words owns each why None spells e =
+-- ---- which rows they are
+
+-- the words after `match`
+match_words : (asked : Asked) (names words : Words) (owns each why : Bool) (edition : Option Edition) (filter : Option (List ℕ)) → Spells (record { owns = owns; each = each; why = why; edition = edition; filter = filter }) names words → match_of names (record { owns = owns; each = each; why = why; edition = edition; filter = filter }) ≡ Some asked → IsRow asked (match_word ∷ words)
+match_words asked [] words owns each why edition filter spells e = absurd (cc)
+match_words asked (file ∷ []) words owns each why edition None spells e = absurd (cc)
+match_words asked (file ∷ []) words owns each true edition (Some expression) spells e = absurd (cc)
+match_words asked (file ∷ []) words owns each false (Some edition) (Some expression) spells e = absurd (cc)
+match_words asked (file ∷ []) words owns each false None (Some expression) spells e =
+    let is : to_match_filter expression file owns each ≡ asked = cc in
+    subst (λ (x : Asked). IsRow x (match_word ∷ words)) is (match_filter_row spells)
+match_words asked (rule ∷ file ∷ []) words owns each why edition (Some expression) spells e = absurd (cc)
+match_words asked (rule ∷ file ∷ []) words owns each why (Some edition) None spells e = absurd (cc)
+match_words asked (rule ∷ file ∷ []) words owns each why None None spells e =
     let is : to_match rule file owns each why ≡ asked = cc in
     subst (λ (x : Asked). IsRow x (match_word ∷ words)) is (match_row spells)
-row_of_names asked (rule ∷ file ∷ other ∷ names) words owns each why edition spells e = absurd (cc)
+match_words asked (rule ∷ file ∷ other ∷ names) words owns each why edition filter spells e = absurd (cc)
 
-row_of_match : (asked : Asked) (words : Words) (all : Gathering) → Found [] false false false None words all → match_of all.names all.owns all.each all.why all.edition ≡ Some asked → IsRow asked (match_word ∷ words)
-row_of_match asked words all found e =
-    row_of_names asked found.names words found.options.owns found.options.each found.options.why found.options.edition found.spells (rw (found.all_names, found.all_owns, found.all_each, found.all_why, found.all_edition) at e)
-
--- One word after `asm`, `check` or `compile` is its row.
-word_of_names : (file : List ℕ) (names words : Words) (owns each why : Bool) (edition : Option Edition) → Spells (record { owns = owns; each = each; why = why; edition = edition }) names words → only_word names owns each why edition ≡ Some file → Spells no_options (file ∷ []) words
-word_of_names file [] words owns each why edition spells e = absurd (cc)
-word_of_names file (name ∷ []) words true each why edition spells e = absurd (cc)
-word_of_names file (name ∷ []) words false true why edition spells e = absurd (cc)
-word_of_names file (name ∷ []) words false false true edition spells e = absurd (cc)
-word_of_names file (name ∷ []) words false false false (Some edition) spells e = absurd (cc)
-word_of_names file (name ∷ []) words false false false None spells e =
-    let is : name ≡ file = cc in
-    subst (λ (x : List ℕ). Spells no_options (x ∷ []) words) is spells
-word_of_names file (name ∷ other ∷ names) words owns each why edition spells e = absurd (cc)
-
-row_of_file : (make : List ℕ → Asked) (command : List ℕ) (asked : Asked) (names words : Words) (owns each why : Bool) (edition : Option Edition) (file : Option (List ℕ)) → ((file : List ℕ) → Spells no_options (file ∷ []) words → IsRow (make file) (command ∷ words)) → Spells (record { owns = owns; each = each; why = why; edition = edition }) names words → only_word names owns each why edition ≡ file → option_map make file ≡ Some asked → IsRow asked (command ∷ words)
-row_of_file make command asked names words owns each why edition None row spells is e = absurd (cc)
-row_of_file make command asked names words owns each why edition (Some file) row spells is e =
+-- one word after `asm` or `check`
+file_word : (make : List ℕ → Asked) (command : List ℕ) (asked : Asked) (names words : Words) (owns each why : Bool) (edition : Option Edition) (filter : Option (List ℕ)) → ((file : List ℕ) → Spells no_options (file ∷ []) words → IsRow (make file) (command ∷ words)) → Spells (record { owns = owns; each = each; why = why; edition = edition; filter = filter }) names words → option_map make (only_word names (record { owns = owns; each = each; why = why; edition = edition; filter = filter })) ≡ Some asked → IsRow asked (command ∷ words)
+file_word make command asked names words true each why edition filter row spells e = absurd (cc)
+file_word make command asked names words false true why edition filter row spells e = absurd (cc)
+file_word make command asked names words false false true edition filter row spells e = absurd (cc)
+file_word make command asked names words false false false (Some edition) filter row spells e = absurd (cc)
+file_word make command asked [] words false false false None filter row spells e = absurd (cc)
+file_word make command asked (file ∷ []) words false false false None (Some expression) row spells e = absurd (cc)
+file_word make command asked (file ∷ []) words false false false None None row spells e =
     let made : make file ≡ asked = cc in
-    subst (λ (x : Asked). IsRow x (command ∷ words)) made (row file (word_of_names file names words owns each why edition spells is))
+    subst (λ (x : Asked). IsRow x (command ∷ words)) made (row file spells)
+file_word make command asked (file ∷ other ∷ names) words false false false None filter row spells e = absurd (cc)
 
-row_of_one : (make : List ℕ → Asked) (command : List ℕ) (asked : Asked) (words : Words) (all : Gathering) → ((file : List ℕ) → Spells no_options (file ∷ []) words → IsRow (make file) (command ∷ words)) → Found [] false false false None words all → option_map make (only_word all.names all.owns all.each all.why all.edition) ≡ Some asked → IsRow asked (command ∷ words)
-row_of_one make command asked words all row found e =
-    row_of_file make command asked found.names words found.options.owns found.options.each found.options.why found.options.edition (only_word found.names found.options.owns found.options.each found.options.why found.options.edition) row found.spells refl (rw (found.all_names, found.all_owns, found.all_each, found.all_why, found.all_edition) at e)
+-- the words after `compile`
+compile_words : (asked : Asked) (names words : Words) (owns each why : Bool) (edition : Option Edition) (filter : Option (List ℕ)) → Spells (record { owns = owns; each = each; why = why; edition = edition; filter = filter }) names words → compile_of names (record { owns = owns; each = each; why = why; edition = edition; filter = filter }) ≡ Some asked → IsRow asked (compile_word ∷ words)
+compile_words asked names words true each why edition filter spells e = absurd (cc)
+compile_words asked names words false true why edition filter spells e = absurd (cc)
+compile_words asked names words false false true edition filter spells e = absurd (cc)
+compile_words asked names words false false false (Some edition) filter spells e = absurd (cc)
+compile_words asked [] words false false false None None spells e = absurd (cc)
+compile_words asked [] words false false false None (Some expression) spells e =
+    let is : to_compile_filter expression ≡ asked = cc in
+    subst (λ (x : Asked). IsRow x (compile_word ∷ words)) is (compile_filter_row spells)
+compile_words asked (rule ∷ []) words false false false None (Some expression) spells e = absurd (cc)
+compile_words asked (rule ∷ []) words false false false None None spells e =
+    let is : to_compile rule ≡ asked = cc in
+    subst (λ (x : Asked). IsRow x (compile_word ∷ words)) is (compile_row spells)
+compile_words asked (rule ∷ other ∷ names) words false false false None filter spells e = absurd (cc)
 
--- Two words after `run`, which aren't both standard input, are its row.
-row_of_two : (asked : Asked) (program file : List ℕ) (words : Words) (each : Bool) (edition : Option Edition) → Spells (record { owns = false; each = each; why = false; edition = edition }) (program ∷ file ∷ []) words → run_of (program ∷ file ∷ []) false each false edition ≡ Some asked → IsRow asked (run_word ∷ words)
-row_of_two asked program file words each edition spells e =
+-- two words after `run`, which aren't both standard input
+run_files : (asked : Asked) (program file : List ℕ) (words : Words) (each : Bool) (edition : Option Edition) → Spells (record no_options { each = each; edition = edition }) (program ∷ file ∷ []) words → run_of (program ∷ file ∷ []) (record no_options { each = each; edition = edition }) ≡ Some asked → IsRow asked (run_word ∷ words)
+run_files asked program file words each edition spells e =
     elim (cases_Bool (is_input program && is_input file)) [
       | inl both ↦ let none : None ≡ Some asked = rw both at e in absurd (cc)
       | inr one ↦
@@ -275,74 +356,64 @@ row_of_two asked program file words each edition spells e =
           subst (λ (x : Asked). IsRow x (run_word ∷ words)) is (run_row one spells)
     ]
 
-run_of_names : (asked : Asked) (names words : Words) (owns each why : Bool) (edition : Option Edition) → Spells (record { owns = owns; each = each; why = why; edition = edition }) names words → run_of names owns each why edition ≡ Some asked → IsRow asked (run_word ∷ words)
-run_of_names asked [] words owns each why edition spells e = absurd (cc)
-run_of_names asked (program ∷ []) words owns each why edition spells e = absurd (cc)
-run_of_names asked (program ∷ file ∷ []) words true each why edition spells e = absurd (cc)
-run_of_names asked (program ∷ file ∷ []) words false each true edition spells e = absurd (cc)
-run_of_names asked (program ∷ file ∷ []) words false each false edition spells e = row_of_two asked program file words each edition spells e
-run_of_names asked (program ∷ file ∷ other ∷ names) words owns each why edition spells e = absurd (cc)
-
-row_of_run : (asked : Asked) (words : Words) (all : Gathering) → Found [] false false false None words all → run_of all.names all.owns all.each all.why all.edition ≡ Some asked → IsRow asked (run_word ∷ words)
-row_of_run asked words all found e =
-    run_of_names asked found.names words found.options.owns found.options.each found.options.why found.options.edition found.spells (rw (found.all_names, found.all_owns, found.all_each, found.all_why, found.all_edition) at e)
+run_words : (asked : Asked) (names words : Words) (owns each why : Bool) (edition : Option Edition) (filter : Option (List ℕ)) → Spells (record { owns = owns; each = each; why = why; edition = edition; filter = filter }) names words → run_of names (record { owns = owns; each = each; why = why; edition = edition; filter = filter }) ≡ Some asked → IsRow asked (run_word ∷ words)
+run_words asked [] words owns each why edition filter spells e = absurd (cc)
+run_words asked (program ∷ []) words owns each why edition filter spells e = absurd (cc)
+run_words asked (program ∷ file ∷ []) words owns each why edition (Some expression) spells e = absurd (cc)
+run_words asked (program ∷ file ∷ []) words true each why edition None spells e = absurd (cc)
+run_words asked (program ∷ file ∷ []) words false each true edition None spells e = absurd (cc)
+run_words asked (program ∷ file ∷ []) words false each false edition None spells e = run_files asked program file words each edition spells e
+run_words asked (program ∷ file ∷ other ∷ names) words owns each why edition filter spells e = absurd (cc)
 
 -- What is asked after a command is its row.
-row_of_asked : (asked : Asked) (command : List ℕ) (words : Words) (all : Gathering) → Found [] false false false None words all → asked_of command all ≡ Some asked → IsRow asked (command ∷ words)
+row_of_asked : (asked : Asked) (command : List ℕ) (words : Words) (all : Gathering) → Found [] no_options words all → asked_of command all ≡ Some asked → IsRow asked (command ∷ words)
 row_of_asked asked command words all found e =
+    let o = found.options in
+    let gathered : asked_of command (having found.names found.options all.awaited) ≡ Some asked = rw (found.all_names, found.all_options) at e in
     elim (cases_Bool (bytes_eq command match_word)) [
-      | inl same ↦
-          let is : command ≡ match_word = (bytes_eq-Decides command match_word).0 same in
-          subst (λ (x : List ℕ). IsRow asked (x ∷ words)) (sym is) (row_of_match asked words all found (rw same at e))
+      | inl same ↦ as_known match_word same (match_words asked found.names words o.owns o.each o.why o.edition o.filter found.spells (rw same at gathered))
       | inr no_match ↦ elim (cases_Bool (bytes_eq command asm_word)) [
-        | inl same ↦
-            let is : command ≡ asm_word = (bytes_eq-Decides command asm_word).0 same in
-            subst (λ (x : List ℕ). IsRow asked (x ∷ words)) (sym is) (row_of_one to_asm asm_word asked words all (λ file spells. asm_row spells) found (rw (no_match, same) at e))
+        | inl same ↦ as_known asm_word same (file_word to_asm asm_word asked found.names words o.owns o.each o.why o.edition o.filter (λ file spells. asm_row spells) found.spells (rw (no_match, same) at gathered))
         | inr no_asm ↦ elim (cases_Bool (bytes_eq command check_word)) [
-          | inl same ↦
-              let is : command ≡ check_word = (bytes_eq-Decides command check_word).0 same in
-              subst (λ (x : List ℕ). IsRow asked (x ∷ words)) (sym is) (row_of_one to_check check_word asked words all (λ file spells. check_row spells) found (rw (no_match, no_asm, same) at e))
+          | inl same ↦ as_known check_word same (file_word to_check check_word asked found.names words o.owns o.each o.why o.edition o.filter (λ file spells. check_row spells) found.spells (rw (no_match, no_asm, same) at gathered))
           | inr no_check ↦ elim (cases_Bool (bytes_eq command compile_word)) [
-            | inl same ↦
-                let is : command ≡ compile_word = (bytes_eq-Decides command compile_word).0 same in
-                subst (λ (x : List ℕ). IsRow asked (x ∷ words)) (sym is) (row_of_one to_compile compile_word asked words all (λ rule spells. compile_row spells) found (rw (no_match, no_asm, no_check, same) at e))
+            | inl same ↦ as_known compile_word same (compile_words asked found.names words o.owns o.each o.why o.edition o.filter found.spells (rw (no_match, no_asm, no_check, same) at gathered))
             | inr no_compile ↦ elim (cases_Bool (bytes_eq command run_word)) [
-              | inl same ↦
-                  let is : command ≡ run_word = (bytes_eq-Decides command run_word).0 same in
-                  subst (λ (x : List ℕ). IsRow asked (x ∷ words)) (sym is) (row_of_run asked words all found (rw (no_match, no_asm, no_check, no_compile, same) at e))
-              | inr other ↦ let none : None ≡ Some asked = rw (no_match, no_asm, no_check, no_compile, other) at e in absurd (cc)
+              | inl same ↦ as_known run_word same (run_words asked found.names words o.owns o.each o.why o.edition o.filter found.spells (rw (no_match, no_asm, no_check, no_compile, same) at gathered))
+              | inr other ↦ let none : None ≡ Some asked = rw (no_match, no_asm, no_check, no_compile, other) at gathered in absurd (cc)
             ]
           ]
         ]
       ]
     ]
+  where
+    as_known : (known : List ℕ) → bytes_eq command known ≡ true → IsRow asked (known ∷ words) → IsRow asked (command ∷ words)
+    as_known known same row =
+        let is : command ≡ known = (bytes_eq-Decides command known).0 same in
+        subst (λ (x : List ℕ). IsRow asked (x ∷ words)) (sym is) row
 
 row_of_gathered : (asked : Asked) (command : List ℕ) (words : Words) (all : Option Gathering) → gather no_words words ≡ all → option_and_then (asked_of command) all ≡ Some asked → IsRow asked (command ∷ words)
 row_of_gathered asked command words None is e = absurd (cc)
-row_of_gathered asked command words (Some all) is e = row_of_asked asked command words all ((found words).0 [] false false false None all is) e
+row_of_gathered asked command words (Some all) is e = row_of_asked asked command words all ((found words).0 [] no_options all is) e
 
 -- What is read is a row.
 pub row_of_read : (asked : Asked) (words : Words) → asked_in words ≡ Some asked → IsRow asked words
 row_of_read asked [] e = absurd (cc)
 row_of_read asked (word ∷ words) e = row_of_gathered asked word words (gather no_words words) refl e
 
+-- the words of a row are gathered
+gathered : {options : Options} {names words : Words} → Spells options names words → length names ≤ 2 → (awaited : Awaited) × (gather no_words words ≡ Some (having names options awaited))
+gathered {options = options} {names = names} spells few = spelled spells [] no_options (omega (arith, few)) (apart_first options)
+
 -- A row is read.
 pub read_of_row : (asked : Asked) (words : Words) → IsRow asked words → asked_in words ≡ Some asked
-read_of_row asked words (match_row {words = tail} spells) =
-    let read = spelled spells [] false false false None (lit≤ tt) refl refl refl refl in
-    rw read.1 refl
-read_of_row asked words (asm_row {words = tail} spells) =
-    let read = spelled spells [] false false false None (lit≤ tt) refl refl refl refl in
-    rw read.1 refl
-read_of_row asked words (check_row {words = tail} spells) =
-    let read = spelled spells [] false false false None (lit≤ tt) refl refl refl refl in
-    rw read.1 refl
-read_of_row asked words (compile_row {words = tail} spells) =
-    let read = spelled spells [] false false false None (lit≤ tt) refl refl refl refl in
-    rw read.1 refl
-read_of_row asked words (run_row {words = tail} one spells) =
-    let read = spelled spells [] false false false None (lit≤ tt) refl refl refl refl in
-    rw (read.1, one) refl
+read_of_row asked words (match_row spells) = let read = gathered spells (lit≤ tt) in rw read.1 refl
+read_of_row asked words (match_filter_row spells) = let read = gathered spells (lit≤ tt) in rw read.1 refl
+read_of_row asked words (asm_row spells) = let read = gathered spells (lit≤ tt) in rw read.1 refl
+read_of_row asked words (check_row spells) = let read = gathered spells (lit≤ tt) in rw read.1 refl
+read_of_row asked words (compile_row spells) = let read = gathered spells (lit≤ tt) in rw read.1 refl
+read_of_row asked words (compile_filter_row spells) = let read = gathered spells (lit≤ tt) in rw read.1 refl
+read_of_row asked words (run_row one spells) = let read = gathered spells (lit≤ tt) in rw (read.1, one) refl
 
 -- What the code reads is a row.
 pub row_of_code : (row : Option CommandRow) (words : Words) → option_map asked_by row ≡ asked_in words → IfSome row (λ (row : CommandRow). IsRow (asked_by row) words)

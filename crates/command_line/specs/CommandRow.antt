@@ -45,6 +45,10 @@ why_word = codes "--why"
 abbrev pub edition_word : List ℕ
 edition_word = codes "--edition"
 
+-- `--filter`: the next word, whatever it is, is a filter expression
+abbrev pub filter_word : List ℕ
+filter_word = codes "--filter"
+
 -- the word of an edition
 abbrev pub word_of_edition : Edition → List ℕ
 word_of_edition One = codes "1"
@@ -62,16 +66,17 @@ is_option word = nat_lt 1 (length word) && slice_index word 0 == 45
 abbrev pub is_input : List ℕ → Bool
 is_input word = bytes_eq word (codes "-")
 
--- the options of a row: `--owns`, `--each`, `--why`, and an edition
+-- the options of a row: `--owns`, `--each`, `--why`, an edition, and a filter expression
 pub record Options : Type 0 where
   pub owns : Bool
   pub each : Bool
   pub why : Bool
   pub edition : Option Edition
+  pub filter : Option (List ℕ)
 
 -- no option is given
 abbrev pub no_options : Options
-no_options = record { owns = false; each = false; why = false; edition = None }
+no_options = record { owns = false; each = false; why = false; edition = None; filter = None }
 
 -- The options among the words after a command, and the words that are no options, in their order. An option may stand
 -- anywhere before `--`, and is given once at most.
@@ -83,20 +88,26 @@ pub data Spells : Options → List (List ℕ) → List (List ℕ) → Type 0 whe
   eached : {options : Options} {names words : List (List ℕ)} → options.each ≡ false → Spells options names words → Spells (record options { each = true }) names (each_word ∷ words)
   whyed : {options : Options} {names words : List (List ℕ)} → options.why ≡ false → Spells options names words → Spells (record options { why = true }) names (why_word ∷ words)
   in_edition : {options : Options} {edition : Edition} {names words : List (List ℕ)} → options.edition ≡ None → Spells options names words → Spells (record options { edition = Some edition }) names (edition_word ∷ word_of_edition edition ∷ words)
+  by_filter : {options : Options} {expression : List ℕ} {names words : List (List ℕ)} → options.filter ≡ None → Spells options names words → Spells (record options { filter = Some expression }) names (filter_word ∷ expression ∷ words)
 
 -- what a row of the command line asks for
 pub data Asked : Type 0 where
   to_match : (rule file : List ℕ) (owns each why : Bool) → Asked
+  to_match_filter : (expression file : List ℕ) (owns each : Bool) → Asked
   to_asm : (file : List ℕ) → Asked
   to_check : (file : List ℕ) → Asked
   to_compile : (rule : List ℕ) → Asked
+  to_compile_filter : (expression : List ℕ) → Asked
   to_run : (program file : List ℕ) (edition : Edition) (each : Bool) → Asked
 
--- `match RULE FILE [--owns] [--each] [--why]`, `asm FILE`, `check FILE`, `compile RULE`, `run PROGRAM FILE [--edition 1|2]
--- [--each]`, whose edition is 1 where none is given, and one of whose files alone may be standard input
+-- `match RULE FILE [--owns] [--each] [--why]`, `match --filter EXPR FILE [--owns] [--each]`, `asm FILE`, `check FILE`,
+-- `compile RULE`, `compile --filter EXPR`, `run PROGRAM FILE [--edition 1|2] [--each]`, whose edition is 1 where none is
+-- given, and one of whose files alone may be standard input
 pub data IsRow : Asked → List (List ℕ) → Type 0 where
-  match_row : {rule file : List ℕ} {owns each why : Bool} {words : List (List ℕ)} → Spells (record { owns = owns; each = each; why = why; edition = None }) (rule ∷ file ∷ []) words → IsRow (to_match rule file owns each why) (match_word ∷ words)
+  match_row : {rule file : List ℕ} {owns each why : Bool} {words : List (List ℕ)} → Spells (record no_options { owns = owns; each = each; why = why }) (rule ∷ file ∷ []) words → IsRow (to_match rule file owns each why) (match_word ∷ words)
+  match_filter_row : {expression file : List ℕ} {owns each : Bool} {words : List (List ℕ)} → Spells (record no_options { owns = owns; each = each; filter = Some expression }) (file ∷ []) words → IsRow (to_match_filter expression file owns each) (match_word ∷ words)
   asm_row : {file : List ℕ} {words : List (List ℕ)} → Spells no_options (file ∷ []) words → IsRow (to_asm file) (asm_word ∷ words)
   check_row : {file : List ℕ} {words : List (List ℕ)} → Spells no_options (file ∷ []) words → IsRow (to_check file) (check_word ∷ words)
   compile_row : {rule : List ℕ} {words : List (List ℕ)} → Spells no_options (rule ∷ []) words → IsRow (to_compile rule) (compile_word ∷ words)
-  run_row : {program file : List ℕ} {option : Option Edition} {each : Bool} {words : List (List ℕ)} → is_input program && is_input file ≡ false → Spells (record { owns = false; each = each; why = false; edition = option }) (program ∷ file ∷ []) words → IsRow (to_run program file (unwrap_or option One) each) (run_word ∷ words)
+  compile_filter_row : {expression : List ℕ} {words : List (List ℕ)} → Spells (record no_options { filter = Some expression }) [] words → IsRow (to_compile_filter expression) (compile_word ∷ words)
+  run_row : {program file : List ℕ} {option : Option Edition} {each : Bool} {words : List (List ℕ)} → is_input program && is_input file ≡ false → Spells (record no_options { each = each; edition = option }) (program ∷ file ∷ []) words → IsRow (to_run program file (unwrap_or option One) each) (run_word ∷ words)

@@ -1,24 +1,21 @@
 -- Inner: reading the words of a command line from left to right.
-use Rattle.std.specs.Prelude.{ℕ, nat_lt, Bool, true, false, ◌&&◌, List, [], ◌∷◌, ◌++◌, length, Option, Some, None, is_some, unwrap_or, option_and_then, if◌then◌else◌}
+use Rattle.std.specs.Prelude.{ℕ, nat_lt, Bool, true, false, not, ◌&&◌, ◌||◌, List, [], ◌∷◌, ◌++◌, length, Option, Some, None, is_some, unwrap_or, option_and_then, if◌then◌else◌}
 use Rattle.std.specs.Option.{option_map}
 use Rattle.std.specs.Str.{bytes_eq}
 use Rattle.summary.specs.declared.edition.Edition.{Edition}
 use Rattle.summary.specs.declared.edition.Edition.TheVariants.{One, Two}
 use Rattle.command_line.specs.declared.gathered.Awaited.{Awaited}
-use Rattle.command_line.specs.declared.gathered.Awaited.TheVariants.{AnyWord, EditionWord, NameAlone}
-use Rattle.command_line.specs.CommandRow.{match_word, asm_word, check_word, compile_word, run_word, owns_word, each_word, why_word, edition_word, word_of_edition, end_word, is_option, is_input, Asked, to_match, to_asm, to_check, to_compile, to_run}
+use Rattle.command_line.specs.declared.gathered.Awaited.TheVariants.{AnyWord, EditionWord, FilterWord, NameAlone}
+use Rattle.command_line.specs.CommandRow.{match_word, asm_word, check_word, compile_word, run_word, owns_word, each_word, why_word, edition_word, filter_word, word_of_edition, end_word, is_option, is_input, Options, no_options, Asked, to_match, to_match_filter, to_asm, to_check, to_compile, to_compile_filter, to_run}
 
 -- What has been read so far: at most two words that are no options, the options, and what the next word may be.
 pub record Gathering : Type 0 where
   pub names : List (List ℕ)
-  pub owns : Bool
-  pub each : Bool
-  pub why : Bool
-  pub edition : Option Edition
+  pub options : Options
   pub awaited : Awaited
 
 abbrev pub no_words : Gathering
-no_words = record { names = []; owns = false; each = false; why = false; edition = None; awaited = AnyWord }
+no_words = record { names = []; options = no_options; awaited = AnyWord }
 
 -- a word that is no option
 abbrev pub with_name : List ℕ → Gathering → Option Gathering
@@ -26,19 +23,19 @@ with_name word so_far = if nat_lt (length so_far.names) 2 then Some (record so_f
 
 -- `--owns`
 abbrev pub with_owns : Gathering → Option Gathering
-with_owns so_far = if so_far.owns then None else Some (record so_far { owns = true })
+with_owns so_far = if so_far.options.owns then None else Some (record so_far { options = record so_far.options { owns = true } })
 
 -- `--each`
 abbrev pub with_each : Gathering → Option Gathering
-with_each so_far = if so_far.each then None else Some (record so_far { each = true })
+with_each so_far = if so_far.options.each then None else Some (record so_far { options = record so_far.options { each = true } })
 
 -- `--why`
 abbrev pub with_why : Gathering → Option Gathering
-with_why so_far = if so_far.why then None else Some (record so_far { why = true })
+with_why so_far = if so_far.options.why then None else Some (record so_far { options = record so_far.options { why = true } })
 
 -- `--edition`
 abbrev pub with_edition : Gathering → Option Gathering
-with_edition so_far = if is_some so_far.edition then None else Some (record so_far { awaited = EditionWord })
+with_edition so_far = if is_some so_far.options.edition then None else Some (record so_far { awaited = EditionWord })
 
 -- the edition that a word says
 abbrev pub edition_of : List ℕ → Option Edition
@@ -50,7 +47,15 @@ edition_of word =
 -- the word after `--edition`
 abbrev pub with_edition_word : List ℕ → Gathering → Option Gathering
 with_edition_word word so_far =
-    option_map (λ edition. record so_far { edition = Some edition; awaited = AnyWord }) (edition_of word)
+    option_map (λ edition. record so_far { options = record so_far.options { edition = Some edition }; awaited = AnyWord }) (edition_of word)
+
+-- `--filter`
+abbrev pub with_filter : Gathering → Option Gathering
+with_filter so_far = if is_some so_far.options.filter then None else Some (record so_far { awaited = FilterWord })
+
+-- the word after `--filter`
+abbrev pub with_filter_word : List ℕ → Gathering → Gathering
+with_filter_word word so_far = record so_far { options = record so_far.options { filter = Some word }; awaited = AnyWord }
 
 -- a word before `--`
 abbrev pub with_any : List ℕ → Gathering → Option Gathering
@@ -60,6 +65,7 @@ with_any word so_far =
     else if bytes_eq word each_word then with_each so_far
     else if bytes_eq word why_word then with_why so_far
     else if bytes_eq word edition_word then with_edition so_far
+    else if bytes_eq word filter_word then with_filter so_far
     else if is_option word then None
     else with_name word so_far
 
@@ -67,6 +73,7 @@ with_any word so_far =
 abbrev pub with_awaited : Awaited → List ℕ → Gathering → Option Gathering
 with_awaited AnyWord word so_far = with_any word so_far
 with_awaited EditionWord word so_far = with_edition_word word so_far
+with_awaited FilterWord word so_far = Some (with_filter_word word so_far)
 with_awaited NameAlone word so_far = with_name word so_far
 
 -- one more word
@@ -76,6 +83,7 @@ with_word word so_far = with_awaited so_far.awaited word so_far
 -- where the words end, no option may still want its word
 abbrev pub at_end : Awaited → Gathering → Option Gathering
 at_end EditionWord so_far = None
+at_end FilterWord so_far = None
 at_end _ so_far = Some so_far
 
 -- the words that are left
@@ -83,30 +91,57 @@ abbrev pub gather : Gathering → List (List ℕ) → Option Gathering
 gather so_far [] = at_end so_far.awaited so_far
 gather so_far (word ∷ words) = option_and_then (λ next. gather next words) (with_word word so_far)
 
--- what `match` and two words ask for
-abbrev pub match_of : List (List ℕ) → Bool → Bool → Bool → Option Edition → Option Asked
-match_of (rule ∷ file ∷ []) owns each why None = Some (to_match rule file owns each why)
-match_of _ owns each why edition = None
+-- no option is given, but for a filter
+abbrev pub are_plain : Options → Bool
+are_plain options = not options.owns && not options.each && not options.why && not (is_some options.edition)
+
+-- what `match`, its words and a filter ask for
+abbrev pub match_by : List (List ℕ) → Options → Option (List ℕ) → Option Asked
+match_by (rule ∷ file ∷ []) options None =
+    if is_some options.edition then None else Some (to_match rule file options.owns options.each options.why)
+match_by (file ∷ []) options (Some expression) =
+    if options.why || is_some options.edition then None else Some (to_match_filter expression file options.owns options.each)
+match_by _ options filter = None
+
+abbrev pub match_of : List (List ℕ) → Options → Option Asked
+match_of names options = match_by names options options.filter
+
+-- what `compile`, its words and a filter ask for
+abbrev pub compile_by : List (List ℕ) → Option (List ℕ) → Option Asked
+compile_by (rule ∷ []) None = Some (to_compile rule)
+compile_by [] (Some expression) = Some (to_compile_filter expression)
+compile_by _ filter = None
+
+abbrev pub compile_of : List (List ℕ) → Options → Option Asked
+compile_of names options = if are_plain options then compile_by names options.filter else None
 
 -- one word without options
-abbrev pub only_word : List (List ℕ) → Bool → Bool → Bool → Option Edition → Option (List ℕ)
-only_word (word ∷ []) false false false None = Some word
-only_word _ owns each why edition = None
+abbrev pub only_by : List (List ℕ) → Option (List ℕ) → Option (List ℕ)
+only_by (word ∷ []) None = Some word
+only_by _ filter = None
+
+abbrev pub only_word : List (List ℕ) → Options → Option (List ℕ)
+only_word names options = if are_plain options then only_by names options.filter else None
 
 -- what `run` and two words ask for
-abbrev pub run_of : List (List ℕ) → Bool → Bool → Bool → Option Edition → Option Asked
-run_of (program ∷ file ∷ []) false each false edition =
-    if is_input program && is_input file then None else Some (to_run program file (unwrap_or edition One) each)
-run_of _ owns each why edition = None
+abbrev pub run_by : List (List ℕ) → Options → Option (List ℕ) → Option Asked
+run_by (program ∷ file ∷ []) options None =
+    if options.owns || options.why then None
+    else if is_input program && is_input file then None
+    else Some (to_run program file (unwrap_or options.edition One) options.each)
+run_by _ options filter = None
+
+abbrev pub run_of : List (List ℕ) → Options → Option Asked
+run_of names options = run_by names options options.filter
 
 -- what a command and the words gathered after it ask for
 abbrev pub asked_of : List ℕ → Gathering → Option Asked
 asked_of command all =
-    if bytes_eq command match_word then match_of all.names all.owns all.each all.why all.edition
-    else if bytes_eq command asm_word then option_map to_asm (only_word all.names all.owns all.each all.why all.edition)
-    else if bytes_eq command check_word then option_map to_check (only_word all.names all.owns all.each all.why all.edition)
-    else if bytes_eq command compile_word then option_map to_compile (only_word all.names all.owns all.each all.why all.edition)
-    else if bytes_eq command run_word then run_of all.names all.owns all.each all.why all.edition
+    if bytes_eq command match_word then match_of all.names all.options
+    else if bytes_eq command asm_word then option_map to_asm (only_word all.names all.options)
+    else if bytes_eq command check_word then option_map to_check (only_word all.names all.options)
+    else if bytes_eq command compile_word then compile_of all.names all.options
+    else if bytes_eq command run_word then run_of all.names all.options
     else None
 
 -- what some words ask for, if they are a row

@@ -15,6 +15,14 @@ pub enum CommandRow<'a> {
         each: bool,
         why: bool,
     },
+    /// `match --filter EXPR FILE [--owns] [--each]`: does the filter hold of the message in the file, or of which messages of
+    /// the capture in it?
+    MatchFilter {
+        filter: &'a str,
+        file: &'a str,
+        owns: bool,
+        each: bool,
+    },
     /// `asm FILE`: the byte form of the program in the file.
     Asm {
         file: &'a str,
@@ -26,6 +34,10 @@ pub enum CommandRow<'a> {
     /// `compile RULE`: the text of the rule's program.
     Compile {
         rule: &'a str,
+    },
+    /// `compile --filter EXPR`: the text of the filter's program.
+    CompileFilter {
+        filter: &'a str,
     },
     /// `run PROGRAM FILE [--edition 1|2] [--each]`: what does the program say of the message in the file, or of each
     /// message of the capture in it?
@@ -65,9 +77,7 @@ impl<'a> CommandRow<'a> {
             "check" => Some(CommandRow::Check {
                 file: gathered.only_word()?,
             }),
-            "compile" => Some(CommandRow::Compile {
-                rule: gathered.only_word()?,
-            }),
+            "compile" => gathered.to_compile(),
             "run" => gathered.to_run(),
             _ => None,
         }

@@ -2,7 +2,7 @@
 
 ghost use Rattle.std.specs.Prelude.{◌≡◌, ◌+◌, ◌≤◌, ◌++◌, length, Some};
 ghost use Rattle.bpf_code.specs.Numbers.{text_at};
-ghost use Rattle.command_line.specs.Errors.{fault_line, fault_text, fault_status, fault_of_rule, fault_of_code, fault_of_file, fault_of_hex};
+ghost use Rattle.command_line.specs.Errors.{fault_line, fault_text, fault_status, fault_of_rule, fault_of_filter, fault_of_code, fault_of_file, fault_of_hex};
 ghost use Rattle.command_line.specs.declared.error.Fault.TheVariants.{Memory, Message};
 
 use crate::files::FileError;
@@ -10,6 +10,7 @@ use crate::hex_text::HexError;
 use arrayvec::ArrayString;
 use bpf_code::CodeError;
 use bpf_verify::VerifyError;
+use filter::{FaultAt, FilterError};
 use itoa::Buffer;
 use match_key::RuleError;
 use message_value::MsgError;
@@ -24,6 +25,10 @@ const LINE_ROOM: usize = 96;
 pub enum Fault {
     /// The rule's text is no rule.
     Rule(RuleError),
+    /// The expression is no filter.
+    Filter(FaultAt),
+    /// The filter weighs more than 4,096 and isn't compiled.
+    HeavyFilter,
     /// The bytes of the message's file are no message.
     Message(MsgError),
     /// The text of the message's file is no hexadecimal text.
@@ -45,8 +50,13 @@ impl Fault {
         ensures { result ≡ fault_status self }
     {
         match self {
-            Fault::Rule(_) | Fault::Message(_) | Fault::Hex | Fault::Code(_) | Fault::Program(_) =>
-                2,
+            Fault::Rule(_)
+            | Fault::Filter(_)
+            | Fault::HeavyFilter
+            | Fault::Message(_)
+            | Fault::Hex
+            | Fault::Code(_)
+            | Fault::Program(_) => 2,
             Fault::Usage => 3,
             Fault::File => 4,
             Fault::Memory => 5,
@@ -77,6 +87,8 @@ impl Fault {
     {
         match self {
             Fault::Rule(fault) => ("rule ", fault.name(), None),
+            Fault::Filter(at) => ("filter ", at.fault.name(), Some(at.place)),
+            Fault::HeavyFilter => ("filter ", "TooHeavy", None),
             Fault::Message(fault) => ("message ", fault.name(), None),
             Fault::Hex => ("hex", "", None),
             Fault::Code(fault) => ("code ", fault.name(), fault.place()),
@@ -94,6 +106,8 @@ impl fmt::Display for Fault {
     fn fmt<W: fmt::Write>(&self, f: &mut fmt::Formatter<W>) -> fmt::Result {
         match self {
             Fault::Rule(fault) => write!(f, "rule {fault}"),
+            Fault::Filter(at) => write!(f, "filter {at}"),
+            Fault::HeavyFilter => f.write_str("filter TooHeavy"),
             Fault::Message(fault) => write!(f, "message {fault}"),
             Fault::Hex => f.write_str("hex"),
             Fault::Code(fault) => write!(f, "code {fault}"),
@@ -112,6 +126,17 @@ impl From<RuleError> for Fault {
         match error {
             RuleError::NoMemory => Fault::Memory,
             fault => Fault::Rule(fault),
+        }
+    }
+}
+
+impl From<FilterError> for Fault {
+    ghost from_gives = { λ error fault. fault ≡ fault_of_filter error };
+
+    fn from(error: FilterError) -> Fault {
+        match error {
+            FilterError::Fault(at) => Fault::Filter(at),
+            FilterError::NoMemory => Fault::Memory,
         }
     }
 }

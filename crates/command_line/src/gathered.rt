@@ -5,6 +5,7 @@ ghost use Rattle.command_line.specs.CommandRow.{is_option};
 ghost use Rattle.command_line.specs.RowReading.{edition_of};
 
 use crate::command_row::CommandRow;
+use crate::options::Options;
 use summary::Edition;
 
 #[derive(Clone, Copy)]
@@ -21,6 +22,8 @@ pub(crate) enum Awaited {
     AnyWord,
     /// The word of `--edition`.
     EditionWord,
+    /// The expression of `--filter`, which may be any word.
+    FilterWord,
     /// A name: after `--` no word is an option.
     NameAlone,
 }
@@ -29,28 +32,22 @@ pub(crate) enum Awaited {
 #[derive(Clone, Copy)]
 pub(crate) struct Gathered<'a> {
     names: Names<'a>,
-    owns: bool,
-    each: bool,
-    why: bool,
-    edition: Option<Edition>,
+    options: Options<'a>,
     awaited: Awaited,
 }
 
 impl<'a> Gathered<'a> {
     ghost use Rattle.std.specs.Prelude.{◌≡◌, map};
     ghost use Rattle.std.specs.Option.{option_map};
-    ghost use Rattle.command_line.specs.Views.{asked_by, names_of, gathering_of};
-    ghost use Rattle.command_line.specs.RowReading.{no_words, with_name, with_owns, with_each, with_why, with_edition, with_edition_word, with_any, with_word, gather, match_of, only_word, run_of};
+    ghost use Rattle.command_line.specs.Views.{asked_by, names_of, options_of, gathering_of};
+    ghost use Rattle.command_line.specs.RowReading.{no_words, with_name, with_owns, with_each, with_why, with_edition, with_edition_word, with_filter, with_filter_word, with_any, with_word, gather, match_of, compile_of, only_word, run_of};
 
     fn nothing() -> Gathered<'a>
         ensures { gathering_of result ≡ no_words }
     {
         Gathered {
             names: Names::Nothing,
-            owns: false,
-            each: false,
-            why: false,
-            edition: None,
+            options: Options::none(),
             awaited: Awaited::AnyWord,
         }
     }
@@ -64,7 +61,7 @@ impl<'a> Gathered<'a> {
             so_far = so_far.with_word(words[i])?;
         }
         match so_far.awaited {
-            Awaited::EditionWord => None,
+            Awaited::EditionWord | Awaited::FilterWord => None,
             Awaited::AnyWord | Awaited::NameAlone => Some(so_far),
         }
     }
@@ -75,6 +72,7 @@ impl<'a> Gathered<'a> {
         match self.awaited {
             Awaited::AnyWord => self.with_any(word),
             Awaited::EditionWord => self.with_edition_word(word),
+            Awaited::FilterWord => Some(self.with_filter_word(word)),
             Awaited::NameAlone => self.with_name(word),
         }
     }
@@ -91,6 +89,7 @@ impl<'a> Gathered<'a> {
             "--each" => self.with_each(),
             "--why" => self.with_why(),
             "--edition" => self.with_edition(),
+            "--filter" => self.with_filter(),
             _ if is_option(word) => None,
             _ => self.with_name(word),
         }
@@ -99,34 +98,46 @@ impl<'a> Gathered<'a> {
     fn with_owns(self) -> Option<Gathered<'a>>
         ensures { option_map gathering_of result ≡ with_owns (gathering_of self.entry) }
     {
-        if self.owns {
+        if self.options.owns {
             return None;
         }
-        Some(Gathered { owns: true, ..self })
+        let options = Options {
+            owns: true,
+            ..self.options
+        };
+        Some(Gathered { options, ..self })
     }
 
     fn with_each(self) -> Option<Gathered<'a>>
         ensures { option_map gathering_of result ≡ with_each (gathering_of self.entry) }
     {
-        if self.each {
+        if self.options.each {
             return None;
         }
-        Some(Gathered { each: true, ..self })
+        let options = Options {
+            each: true,
+            ..self.options
+        };
+        Some(Gathered { options, ..self })
     }
 
     fn with_why(self) -> Option<Gathered<'a>>
         ensures { option_map gathering_of result ≡ with_why (gathering_of self.entry) }
     {
-        if self.why {
+        if self.options.why {
             return None;
         }
-        Some(Gathered { why: true, ..self })
+        let options = Options {
+            why: true,
+            ..self.options
+        };
+        Some(Gathered { options, ..self })
     }
 
     fn with_edition(self) -> Option<Gathered<'a>>
         ensures { option_map gathering_of result ≡ with_edition (gathering_of self.entry) }
     {
-        if self.edition.is_some() {
+        if self.options.edition.is_some() {
             return None;
         }
         Some(Gathered {
@@ -139,11 +150,41 @@ impl<'a> Gathered<'a> {
         ensures { option_map gathering_of result ≡ with_edition_word word.now (gathering_of self.entry) }
     {
         let edition = edition_of(word)?;
-        Some(Gathered {
+        let options = Options {
             edition: Some(edition),
+            ..self.options
+        };
+        Some(Gathered {
+            options,
             awaited: Awaited::AnyWord,
             ..self
         })
+    }
+
+    fn with_filter(self) -> Option<Gathered<'a>>
+        ensures { option_map gathering_of result ≡ with_filter (gathering_of self.entry) }
+    {
+        if self.options.filter.is_some() {
+            return None;
+        }
+        Some(Gathered {
+            awaited: Awaited::FilterWord,
+            ..self
+        })
+    }
+
+    fn with_filter_word(self, word: &'a str) -> Gathered<'a>
+        ensures { gathering_of result ≡ with_filter_word word.entry.now (gathering_of self.entry) }
+    {
+        let options = Options {
+            filter: Some(word),
+            ..self.options
+        };
+        Gathered {
+            options,
+            awaited: Awaited::AnyWord,
+            ..self
+        }
     }
 
     fn with_name(self, word: &'a str) -> Option<Gathered<'a>>
@@ -159,44 +200,80 @@ impl<'a> Gathered<'a> {
 
     /// What `match` and these words ask for.
     pub(crate) fn to_match(self) -> Option<CommandRow<'a>>
-        ensures { option_map asked_by result ≡ match_of (names_of self.entry.names) self.entry.owns self.entry.each self.entry.why self.entry.edition }
+        ensures { option_map asked_by result ≡ match_of (names_of self.entry.names) (options_of self.entry.options) }
     {
-        match (self.names, self.edition) {
-            (Names::Two(rule, file), None) => Some(CommandRow::Match {
-                rule,
-                file,
-                owns: self.owns,
-                each: self.each,
-                why: self.why,
-            }),
+        let Options {
+            owns,
+            each,
+            why,
+            ..
+        } = self.options;
+        match (self.names, self.options.filter) {
+            (Names::Two(rule, file), None) if self.options.edition.is_none() => {
+                Some(CommandRow::Match {
+                    rule,
+                    file,
+                    owns,
+                    each,
+                    why,
+                })
+            }
+            (Names::One(file), Some(filter)) if !why && self.options.edition.is_none() => {
+                Some(CommandRow::MatchFilter {
+                    filter,
+                    file,
+                    owns,
+                    each,
+                })
+            }
+            _ => None,
+        }
+    }
+
+    /// What `compile` and these words ask for.
+    pub(crate) fn to_compile(self) -> Option<CommandRow<'a>>
+        ensures { option_map asked_by result ≡ compile_of (names_of self.entry.names) (options_of self.entry.options) }
+    {
+        if !self.options.are_plain() {
+            return None;
+        }
+        match (self.names, self.options.filter) {
+            (Names::One(rule), None) => Some(CommandRow::Compile { rule }),
+            (Names::Nothing, Some(filter)) => Some(CommandRow::CompileFilter { filter }),
             _ => None,
         }
     }
 
     /// The one word that stands there, if there is no other and no option.
     pub(crate) fn only_word(self) -> Option<&'a str>
-        ensures { option_map (λ word. word.now) result ≡ only_word (names_of self.entry.names) self.entry.owns self.entry.each self.entry.why self.entry.edition }
+        ensures { option_map (λ word. word.now) result ≡ only_word (names_of self.entry.names) (options_of self.entry.options) }
     {
-        match (self.names, self.edition) {
-            (Names::One(word), None) if !self.owns && !self.each && !self.why => Some(word),
+        match (self.names, self.options.filter) {
+            (Names::One(word), None) if self.options.are_plain() => Some(word),
             _ => None,
         }
     }
 
     /// What `run` and these words ask for.
     pub(crate) fn to_run(self) -> Option<CommandRow<'a>>
-        ensures { option_map asked_by result ≡ run_of (names_of self.entry.names) self.entry.owns self.entry.each self.entry.why self.entry.edition }
+        ensures { option_map asked_by result ≡ run_of (names_of self.entry.names) (options_of self.entry.options) }
     {
-        let each = self.each;
-        match self.names {
-            Names::Two(program, file) if !self.owns && !self.why => {
+        let Options {
+            owns,
+            each,
+            why,
+            edition,
+            ..
+        } = self.options;
+        match (self.names, self.options.filter) {
+            (Names::Two(program, file), None) if !owns && !why => {
                 if program == "-" && file == "-" {
                     return None;
                 }
                 Some(CommandRow::Run {
                     program,
                     file,
-                    edition: self.edition.unwrap_or(Edition::One),
+                    edition: edition.unwrap_or(Edition::One),
                     each,
                 })
             }

@@ -8,6 +8,7 @@ mod error;
 mod files;
 mod gathered;
 mod hex_text;
+mod options;
 mod output;
 mod progress;
 mod streams;

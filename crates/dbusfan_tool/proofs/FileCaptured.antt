@@ -23,8 +23,8 @@ use Rattle.dbusfan_tool.specs.Reports.{lines_of}
 use Rattle.dbusfan_tool.specs.Tallies.{IsTally}
 use Rattle.dbusfan_tool.specs.declared.capturing.Taken.{Taken}
 use Rattle.dbusfan_tool.specs.declared.capturing.Taken.TheVariants.{Until, Faulty}
-use Rattle.dbusfan_tool.specs.declared.filter.Filter.{Filter}
-use Rattle.dbusfan_tool.specs.Filters.{Serves}
+use Rattle.dbusfan_tool.specs.declared.program_judge.ProgramJudge.{ProgramJudge}
+use Rattle.dbusfan_tool.specs.Serving.{Serves}
 use Rattle.dbusfan_tool.specs.CaptureSteps.{IsAt, Waits, TakesTo, so_far}
 use Rattle.dbusfan_tool.specs.FirstBytes.{Continues, EndsCapture, BreaksCapture}
 use Rattle.dbusfan_tool.proofs.Captured.{begins, comes, has_ended, are_first, all_are_first}
@@ -179,21 +179,21 @@ module _ (judge : Judge) (words : Wording) (each : Bool) (beginning : Beginning)
   piece_fails of_file.Memory reads =
       (so.written, so.puts_lines, (so.found, short reads (are_first judge so.came so.found so.passed reading rest so.at), written_are judge words each beginning gives tally so.written so.found so.passed so.tally_is so.none_left))
 
--- what is taken of bytes that are lent, by a filter that judges as it is said
-abbrev pub TakesLent : Filter → Reading → Tally → List ℕ → Reading → Tally → Taken → Type 0
-TakesLent filter reading tally lent after counted taken =
-    (judge : Judge) (words : Wording) (each : Bool) (came written : List ℕ) (found : List Finding) (passed : ℕ) → Serves judge filter → IsTally words each tally written found passed → IsAt judge came found passed reading lent → TakesTo judge words each came written lent after counted taken
+-- what is taken of bytes that are lent, by a judge that judges as it is said
+abbrev pub TakesLent : ProgramJudge → Reading → Tally → List ℕ → Reading → Tally → Taken → Type 0
+TakesLent program_judge reading tally lent after counted taken =
+    (judge : Judge) (words : Wording) (each : Bool) (came written : List ℕ) (found : List Finding) (passed : ℕ) → Serves judge program_judge → IsTally words each tally written found passed → IsAt judge came found passed reading lent → TakesTo judge words each came written lent after counted taken
 
 -- the packets of the bytes that are there were taken until more are needed, and their lines written
-pub took_lent : (judge : Judge) (words : Wording) (each : Bool) (beginning : Beginning) (gave : Content → Type 0) (puts after_puts : List ℕ → Type 0) (reading after : Reading) (tally counted left : Tally) (bytes lent : List ℕ) (is_open : Bool) (filter : Filter) (taken : Taken) (len : ℕ)
+pub took_lent : (judge : Judge) (words : Wording) (each : Bool) (beginning : Beginning) (gave : Content → Type 0) (puts after_puts : List ℕ → Type 0) (reading after : Reading) (tally counted left : Tally) (bytes lent : List ℕ) (is_open : Bool) (program_judge : ProgramJudge) (taken : Taken) (len : ℕ)
     → SoFar judge words each beginning gave puts reading tally bytes is_open
     → ((written : List ℕ) → puts written → after_puts (written ++ string_bytes counted.lines))
     → ((written : List ℕ) (found : List Finding) (passed : ℕ) → IsTally words each counted written found passed → IsTally words each left (written ++ string_bytes counted.lines) found passed)
     → string_bytes left.lines ≡ []
-    → Serves judge filter → lent ≡ bytes → taken ≡ Until len → TakesLent filter reading tally lent after counted taken
+    → Serves judge program_judge → lent ≡ bytes → taken ≡ Until len → TakesLent program_judge reading tally lent after counted taken
     → SoFar judge words each beginning gave after_puts after left (drop len bytes) is_open × Waits after (drop len bytes)
-took_lent judge words each beginning gave puts after_puts reading after tally counted left bytes lent is_open filter taken len so put same empty serves here is all =
-    let lent_takes : TakesTo judge words each so.came so.written bytes after counted taken = subst (λ (b : List ℕ). TakesLent filter reading tally b after counted taken) here all judge words each so.came so.written so.found so.passed serves so.tally_is so.at in
+took_lent judge words each beginning gave puts after_puts reading after tally counted left bytes lent is_open program_judge taken len so put same empty serves here is all =
+    let lent_takes : TakesTo judge words each so.came so.written bytes after counted taken = subst (λ (b : List ℕ). TakesLent program_judge reading tally b after counted taken) here all judge words each so.came so.written so.found so.passed serves so.tally_is so.at in
     let takes : TakesTo judge words each so.came so.written bytes after counted (Until len) = subst (λ (t : Taken). TakesTo judge words each so.came so.written bytes after counted t) is lent_takes in
     (took judge words each beginning gave puts after_puts reading after tally counted left bytes is_open so put same empty len takes, takes.5)
 

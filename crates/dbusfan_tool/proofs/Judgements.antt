@@ -1,5 +1,5 @@
--- What a filter says of a message, from what its steps answer.
-use Rattle.std.proofs.Common.{◌≡◌, ℕ, Bool, List, Option, Some, None, refl, ap, subst, ◌∙◌}
+-- What a judge says of a message, from what its steps answer.
+use Rattle.std.proofs.Common.{◌≡◌, ℕ, Bool, List, [], Option, Some, None, refl, ap, subst, ◌∙◌}
 use Rattle.std.specs.Prelude.{string_bytes}
 use Rattle.bpf_code.specs.declared.instruction.Ins.{Ins}
 use Rattle.bpf_code.specs.Steps.{Ends}
@@ -11,9 +11,9 @@ use Rattle.summary.specs.declared.edition.Edition.{Edition}
 use Rattle.summary.specs.declared.edition.Edition.TheVariants.{Two}
 use Rattle.summary.specs.ImageBytes.{image_bytes}
 use Rattle.dbusfan_tool.specs.declared.why.Why.{Why}
-use Rattle.dbusfan_tool.specs.declared.filter.Filter.{Filter}
-use Rattle.dbusfan_tool.specs.Judges.{Judge, by_rule, by_program, no_slots, AreTold, AreToldIf, IsOutcome}
-use Rattle.dbusfan_tool.specs.Filters.{Explains, TellsOf, Serves}
+use Rattle.dbusfan_tool.specs.declared.program_judge.ProgramJudge.{ProgramJudge}
+use Rattle.dbusfan_tool.specs.Judges.{Judge, by_rule, by_filter, by_program, no_slots, AreTold, AreToldIf, IsOutcome}
+use Rattle.dbusfan_tool.specs.Serving.{Explains, TellsOf, Serves}
 use Rattle.dbusfan_tool.specs.Reports.{words_of}
 use Rattle.dbusfan_tool.proofs.Compiled.{agree}
 use Rattle.dbusfan_tool.proofs.NoSlots.{none_is_zeros}
@@ -28,23 +28,37 @@ explained (Some front) tree owns (Some why) m text explains tells =
     let of_sender : AreTold why.front.now tree m owns text = subst (λ (b : Bool). AreTold why.front.now tree m b text) explains.1 of_tree in
     subst (λ (f : List ℕ). AreTold f tree m owns text) explains.2 of_sender
 
--- the run of the filter's program
-pub of_outcome : (judge : Judge) (filter : Filter) (bytes : List ℕ) (m : Message) (image : List ℕ) (outcome : Judgement) → Serves judge filter → Valid bytes m → image ≡ image_bytes filter.edition m filter.slots → Ends filter.program image outcome.verdict outcome.steps → TellsOf filter.why m (string_bytes outcome.reasons) → IsOutcome judge bytes outcome
-of_outcome (by_rule tree owns front) filter bytes m image outcome serves valid is ends tells =
-    let in_second : image_bytes filter.edition m filter.slots ≡ image_bytes Two m filter.slots = ap (λ (e : Edition). image_bytes e m filter.slots) serves.3 in
-    let ends : Ends filter.program (image_bytes Two m filter.slots) outcome.verdict outcome.steps = subst (λ (b : List ℕ). Ends filter.program b outcome.verdict outcome.steps) (is ∙ in_second) ends in (
+-- nothing is told where no reasons are wanted
+none_told : (why : Option Why) (m : Message) (text : List ℕ) → why ≡ None → TellsOf why m text → text ≡ []
+none_told None m text none tells = tells
+none_told (Some why) m text none tells = absurd (cc)
+
+-- the run of the judge's program
+pub of_outcome : (judge : Judge) (program_judge : ProgramJudge) (bytes : List ℕ) (m : Message) (image : List ℕ) (outcome : Judgement) → Serves judge program_judge → Valid bytes m → image ≡ image_bytes program_judge.edition m program_judge.slots → Ends program_judge.program image outcome.verdict outcome.steps → TellsOf program_judge.why m (string_bytes outcome.reasons) → IsOutcome judge bytes outcome
+of_outcome (by_rule tree owns front) program_judge bytes m image outcome serves valid is ends tells =
+    let in_second : image_bytes program_judge.edition m program_judge.slots ≡ image_bytes Two m program_judge.slots = ap (λ (e : Edition). image_bytes e m program_judge.slots) serves.3 in
+    let ends : Ends program_judge.program (image_bytes Two m program_judge.slots) outcome.verdict outcome.steps = subst (λ (b : List ℕ). Ends program_judge.program b outcome.verdict outcome.steps) (is ∙ in_second) ends in (
       m,
       valid,
-      serves.0 bytes m filter.slots (λ name. owns) outcome.verdict outcome.steps valid serves.1 (agree tree (sender_name_of tree) owns filter.slots refl serves.2) ends,
-      explained front tree owns filter.why m (string_bytes outcome.reasons) serves.5 tells,
+      serves.0 bytes m program_judge.slots (λ name. owns) outcome.verdict outcome.steps valid serves.1 (agree tree (sender_name_of tree) owns program_judge.slots refl serves.2) ends,
+      explained front tree owns program_judge.why m (string_bytes outcome.reasons) serves.5 tells,
     )
-of_outcome (by_program code edition) filter bytes m image outcome serves valid is ends tells =
-    let same : image_bytes filter.edition m filter.slots ≡ image_bytes edition m filter.slots = ap (λ (e : Edition). image_bytes e m filter.slots) serves.3 in
-    let none : image_bytes edition m filter.slots ≡ image_bytes edition m no_slots = ap (λ (slots : List ℕ). image_bytes edition m slots) (none_is_zeros filter.slots serves.1 serves.2) in
-    let ends : Ends filter.program (image_bytes edition m no_slots) outcome.verdict outcome.steps = subst (λ (b : List ℕ). Ends filter.program b outcome.verdict outcome.steps) (is ∙ same ∙ none) ends in
+of_outcome (by_filter tree owns) program_judge bytes m image outcome serves valid is ends tells =
+    let in_second : image_bytes program_judge.edition m program_judge.slots ≡ image_bytes Two m program_judge.slots = ap (λ (e : Edition). image_bytes e m program_judge.slots) serves.3 in
+    let ends : Ends program_judge.program (image_bytes Two m program_judge.slots) outcome.verdict outcome.steps = subst (λ (b : List ℕ). Ends program_judge.program b outcome.verdict outcome.steps) (is ∙ in_second) ends in (
+      m,
+      valid,
+      serves.0 bytes m program_judge.slots (λ name. owns) outcome.verdict outcome.steps valid serves.1 serves.2 ends,
+      none_told program_judge.why m (string_bytes outcome.reasons) serves.5 tells,
+    )
+of_outcome (by_program code edition) program_judge bytes m image outcome serves valid is ends tells =
+    let same : image_bytes program_judge.edition m program_judge.slots ≡ image_bytes edition m program_judge.slots = ap (λ (e : Edition). image_bytes e m program_judge.slots) serves.3 in
+    let none : image_bytes edition m program_judge.slots ≡ image_bytes edition m no_slots = ap (λ (slots : List ℕ). image_bytes edition m slots) (none_is_zeros program_judge.slots serves.1 serves.2) in
+    let ends : Ends program_judge.program (image_bytes edition m no_slots) outcome.verdict outcome.steps = subst (λ (b : List ℕ). Ends program_judge.program b outcome.verdict outcome.steps) (is ∙ same ∙ none) ends in
     (m, valid, subst (λ (program : List Ins). Ends program (image_bytes edition m no_slots) outcome.verdict outcome.steps) serves.0 ends)
 
--- a filter has the words of who judges
-pub words_are : (judge : Judge) (filter : Filter) → Serves judge filter → filter.words ≡ words_of judge
-words_are (by_rule tree owns front) filter serves = serves.4
-words_are (by_program code edition) filter serves = serves.4
+-- a judge has the words of who judges
+pub words_are : (judge : Judge) (program_judge : ProgramJudge) → Serves judge program_judge → program_judge.words ≡ words_of judge
+words_are (by_rule tree owns front) program_judge serves = serves.4
+words_are (by_filter tree owns) program_judge serves = serves.4
+words_are (by_program code edition) program_judge serves = serves.4

@@ -1,5 +1,5 @@
 -- What comes of opening and reading a file.
-use Rattle.std.proofs.Common.{◌≡◌, ℕ, List, [], ◌++◌, Err, refl, inl, inr}
+use Rattle.std.proofs.Common.{ℕ, List, [], Err, refl, inl, inr}
 use Rattle.command_line.specs.declared.files.FileError.{FileError}
 use Rattle.command_line.specs.declared.files.FileError.TheVariants.{File, Memory}
 use Rattle.command_line.specs.Errors.{fault_of_file}

@@ -6,15 +6,19 @@ use Rattle.message_view.specs.Message.{Message}
 use Rattle.message_view.specs.Valid.{Valid}
 use Rattle.match_rule.specs.RuleTree.{RuleTree}
 use Rattle.match_rule.specs.Holds.{Holds}
+use Rattle.filter.specs.FilterTree.{FilterTree}
+use Rattle.filter_compile.specs.Holds.{FilterHolds}
 use Rattle.summary.specs.declared.edition.Edition.{Edition}
 use Rattle.summary.specs.ImageBytes.{image_bytes}
 use Rattle.rule_reasons.specs.Reasons.{AreAllReasons, after_fronts}
 use Rattle.dbusfan_tool.specs.declared.judgement.Judgement.{Judgement}
 
 -- a rule, whether each sender owns its name, and the text before each reason why the rule doesn't match, where reasons are
--- wanted; or a program, and the edition of images that it is for
+-- wanted; a filter, and whether each sender owns all names that it asks for; or a program, and the edition of images that it
+-- is for
 pub data Judge : Type 0 where
   by_rule : (tree : RuleTree) (owns : Bool) (front : Option (List ℕ)) → Judge
+  by_filter : (tree : FilterTree) (owns : Bool) → Judge
   by_program : (code : List Ins) (edition : Edition) → Judge
 
 -- the words of the set of no slots
@@ -30,8 +34,9 @@ abbrev pub AreToldIf : Option (List ℕ) → RuleTree → Message → Bool → L
 AreToldIf None tree m owns text = text ≡ []
 AreToldIf (Some front) tree m owns text = AreTold front tree m owns text
 
--- What is said of the message that bytes are. The verdict of a rule is 0 where it doesn't hold, and its steps say nothing;
--- a program's verdict and steps are those of its run, where the sender owns no name.
+-- What is said of the message that bytes are. The verdict of a rule or a filter is 0 where it doesn't hold, and its steps say
+-- nothing; a program's verdict and steps are those of its run, where the sender owns no name.
 abbrev pub IsOutcome : Judge → List ℕ → Judgement → Type 0
 IsOutcome (by_rule tree owns front) bytes outcome = (m : Message) × Valid bytes m × ((0 < outcome.verdict) ↔ Holds tree m (λ name. owns)) × AreToldIf front tree m owns (string_bytes outcome.reasons)
+IsOutcome (by_filter tree owns) bytes outcome = (m : Message) × Valid bytes m × ((0 < outcome.verdict) ↔ FilterHolds tree m (λ name. owns)) × (string_bytes outcome.reasons ≡ [])
 IsOutcome (by_program code edition) bytes outcome = (m : Message) × Valid bytes m × Ends code (image_bytes edition m no_slots) outcome.verdict outcome.steps

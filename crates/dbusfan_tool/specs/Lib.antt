@@ -15,7 +15,7 @@ pub mod Reports
 pub mod FileJudgements
 pub mod Usage
 pub mod Tool
-pub mod Filters
+pub mod Serving
 pub mod Tallies
 pub mod CaptureSteps
 pub mod FirstBytes

@@ -10,20 +10,21 @@ use Rattle.dbusfan_tool.specs.declared.wording.Wording.TheVariants.{OfRule, OfPr
 use Rattle.dbusfan_tool.specs.declared.finding.Finding.{Finding}
 use Rattle.dbusfan_tool.specs.declared.judgement.Judgement.{Judgement}
 use Rattle.dbusfan_tool.specs.declared.finding.Finding.TheVariants.{Judged, Cut, NoMessage}
-use Rattle.dbusfan_tool.specs.Judges.{Judge, by_rule, by_program}
+use Rattle.dbusfan_tool.specs.Judges.{Judge, by_rule, by_filter, by_program}
 use Rattle.dbusfan_tool.specs.Findings.{Report, judged_count, accepted_count}
 use Rattle.dbusfan_tool.specs.Answer.{Said}
 
 -- whose words are used
 abbrev pub words_of : Judge → Wording
 words_of (by_rule tree owns front) = OfRule
+words_of (by_filter tree owns) = OfRule
 words_of (by_program code edition) = OfProgram
 
--- that the rule doesn't match, and why
+-- that the rule or the filter doesn't match, and why
 abbrev pub no_match_line : List ℕ → List ℕ
 no_match_line reasons = codes "no match" ++ reasons ++ line_end
 
--- what is said of one message: whether the rule matches, or the program's verdict and the number of its steps
+-- what is said of one message: whether the rule or the filter matches, or the program's verdict and the number of its steps
 abbrev pub outcome_line : Wording → Judgement → List ℕ
 outcome_line OfRule outcome = if outcome.verdict == 0 then no_match_line (string_bytes outcome.reasons) else codes "match" ++ line_end
 outcome_line OfProgram outcome = codes "verdict " ++ decimal outcome.verdict ++ codes " steps " ++ decimal outcome.steps ++ line_end

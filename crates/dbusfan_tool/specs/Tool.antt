@@ -5,14 +5,16 @@ use Rattle.command_line.specs.Errors.{line_end}
 use Rattle.command_line.specs.declared.error.Fault.TheVariants.{Memory}
 use Rattle.match_rule.specs.RuleTree.{RuleTree}
 use Rattle.match_rule.specs.Grammar.{ReadsAs}
+use Rattle.filter.specs.FilterTree.{FilterTree}
+use Rattle.filter.specs.Grammar.{ReadsAs as ReadsAsFilter}
 use Rattle.bpf_code.specs.declared.instruction.Ins.{Ins}
 use Rattle.bpf_code.specs.Program.{WellFormed}
 use Rattle.summary.specs.declared.edition.Edition.{Edition}
 use Rattle.command_line.specs.Files.{FileRead, one_read, two_reads}
-use Rattle.command_line.specs.CommandRow.{Asked, to_match, to_asm, to_check, to_compile, to_run}
+use Rattle.command_line.specs.CommandRow.{Asked, to_match, to_match_filter, to_asm, to_check, to_compile, to_compile_filter, to_run}
 use Rattle.dbusfan_tool.specs.Program.{Assembles, Checks}
-use Rattle.dbusfan_tool.specs.Compiling.{IsRuleFault, Compiles}
-use Rattle.dbusfan_tool.specs.Judges.{by_rule, by_program}
+use Rattle.dbusfan_tool.specs.Compiling.{IsRuleFault, Compiles, IsFilterFault, CompilesFilter}
+use Rattle.dbusfan_tool.specs.Judges.{by_rule, by_filter, by_program}
 use Rattle.dbusfan_tool.specs.FileJudgements.{SaysOfFile}
 use Rattle.dbusfan_tool.specs.Answer.{Said, said_of, said_of_asm, said_of_check, saying, failing}
 
@@ -27,6 +29,12 @@ pub data Matches (reads : List FileRead → Type 0) (rule file : List ℕ) (owns
   no_rule : {fault : Fault} → IsRuleFault rule fault → reads [] → Matches reads rule file owns each why (failing fault)
   judged : {tree : RuleTree} {said : Said} → ReadsAs rule tree → SaysOfFile (λ content. reads (one_read file content)) (by_rule tree owns (front_of why each)) each said → Matches reads rule file owns each why said
 
+-- What `match --filter` says for an expression, what was read, and whether the sender owns each name that the filter asks for:
+-- the same as for a rule, of which no reasons are wanted.
+pub data MatchesFilter (reads : List FileRead → Type 0) (expression file : List ℕ) (owns each : Bool) : Said → Type 0 where
+  no_filter : {fault : Fault} → IsFilterFault expression fault → reads [] → MatchesFilter reads expression file owns each (failing fault)
+  filtered : {tree : FilterTree} {said : Said} → ReadsAsFilter expression tree → SaysOfFile (λ content. reads (one_read file content)) (by_filter tree owns) each said → MatchesFilter reads expression file owns each said
+
 -- What `run` says for what was read. All faults of the program come before those of the other file: that a file can't be
 -- read, then its text's, then that of what the text says. The program's file is read first and once, and the other file
 -- once, only after a program that is accepted.
@@ -37,9 +45,11 @@ pub data Runs (reads : List FileRead → Type 0) (program file : List ℕ) (edit
 -- What is said to a row, where `reads` says of a list of reads that these were made, in this order, and no others.
 abbrev pub Tool : (List FileRead → Type 0) → Asked → Said → Type 0
 Tool reads (to_match rule file owns each why) said = Matches reads rule file owns each why said
+Tool reads (to_match_filter expression file owns each) said = MatchesFilter reads expression file owns each said
 Tool reads (to_asm file) said = (found : Result (List Ins) Fault) × Assembles (λ content. reads (one_read file content)) found × (said ≡ said_of said_of_asm found)
 Tool reads (to_check file) said = (found : Result ℕ Fault) × Checks (λ content. reads (one_read file content)) found × (said ≡ said_of said_of_check found)
 Tool reads (to_compile rule) said = (found : Result (List ℕ) Fault) × Compiles rule found × reads [] × (said ≡ said_of saying found)
+Tool reads (to_compile_filter expression) said = (found : Result (List ℕ) Fault) × CompilesFilter expression found × reads [] × (said ≡ said_of saying found)
 Tool reads (to_run program file edition each) said = Runs reads program file edition each said
 
 -- what the words allow is said, or that memory was short

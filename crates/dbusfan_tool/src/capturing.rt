@@ -1,4 +1,4 @@
-// What a filter says of each message of a capture.
+// What a judge says of each message of a capture.
 
 ghost use Rattle.std.specs.Prelude.{◌≡◌, ◌≤◌, ◌++◌, ℕ, Bool, true, List, [], length, drop, IfOk, MatchResult, string_bytes};
 ghost use Rattle.captures.specs.Contents.{message_in};
@@ -7,15 +7,15 @@ ghost use Rattle.command_line.specs.Output.{PutsParts};
 ghost use Rattle.dbusfan_tool.specs.declared.finding.Finding.{Finding};
 ghost use Rattle.dbusfan_tool.specs.declared.wording.Wording.{Wording};
 ghost use Rattle.dbusfan_tool.specs.Judges.{Judge};
-ghost use Rattle.dbusfan_tool.specs.Filters.{Serves};
+ghost use Rattle.dbusfan_tool.specs.Serving.{Serves};
 ghost use Rattle.dbusfan_tool.specs.Findings.{IsFinding, Report, Reports};
 ghost use Rattle.dbusfan_tool.specs.Tallies.{IsTally};
 ghost use Rattle.dbusfan_tool.specs.CaptureSteps.{IsAt, TakesTo, TakesWithin, so_far};
 ghost use Rattle.dbusfan_tool.specs.FirstBytes.{EndsCapture, BreaksCapture};
 
 use crate::beginning::Beginning;
-use crate::filter::Filter;
 use crate::finding::Finding;
+use crate::program_judge::ProgramJudge;
 use crate::tally::Tally;
 use captures::{CaptureError, Packet, Packets, Step};
 use command_line::{Fault, Files, Output, Writer};
@@ -38,29 +38,29 @@ pub(crate) enum Taken {
     Faulty(CaptureError),
 }
 
-/// What a filter says of each message of a capture, of which some bytes were read, and more can be if it is still open.
+/// What a judge says of each message of a capture, of which some bytes were read, and more can be if it is still open.
 /// The lines of the messages are written as they are found. No more of the file is kept than a block, or a packet with its
 /// header, and one piece. A fault may come after some of the lines; where `out` has failed it says nothing.
 pub(crate) fn judge_capture<F: Files, O: Writer>(
     alloc: Global,
-    filter: &Filter,
+    program_judge: &ProgramJudge,
     each: bool,
     files: &mut F,
     beginning: Beginning,
     out: &mut Output<O>,
 ) -> Result<CaptureEnd, Fault>
-    ensures { (judge : Judge) (before : F) (name : List ℕ) → Serves judge filter.now → F.gives before name (so_far beginning.is_open beginning.bytes.items) files.old
+    ensures { (judge : Judge) (before : F) (name : List ℕ) → Serves judge program_judge.now → F.gives before name (so_far beginning.is_open beginning.bytes.items) files.old
         → (written : List ℕ) × PutsParts O.takes O.flushes O.may_fail out.old out.new written
-        × MatchResult result (EndsCapture judge filter.now.words each beginning written (λ content. F.gives before name content files.new)) (BreaksCapture judge filter.now.words each written (λ content. F.gives before name content files.new)) }
+        × MatchResult result (EndsCapture judge program_judge.now.words each beginning written (λ content. F.gives before name content files.new)) (BreaksCapture judge program_judge.now.words each written (λ content. F.gives before name content files.new)) }
 {
     let mut packets = Packets::new();
-    let mut tally = Tally::new(alloc, filter.words, each);
+    let mut tally = Tally::new(alloc, program_judge.words, each);
     let Beginning {
         mut bytes,
         mut is_open,
     } = beginning;
     for _ in 0..u64::MAX {
-        let taken = take_packets(alloc, filter, &mut packets, &bytes, &mut tally)?;
+        let taken = take_packets(alloc, program_judge, &mut packets, &bytes, &mut tally)?;
         tally.put_lines(out);
         let len = match taken {
             Taken::Until(len) => len,
@@ -98,13 +98,13 @@ fn left_after(alloc: Global, bytes: Vec<u8>, len: usize) -> Result<Vec<u8>, Allo
 /// Takes the packets that bytes begin with.
 fn take_packets(
     alloc: Global,
-    filter: &Filter,
+    program_judge: &ProgramJudge,
     packets: &mut Packets,
     bytes: &[u8],
     tally: &mut Tally,
 ) -> Result<Taken, AllocError>
     ensures within { IfOk result (TakesWithin bytes.now) }
-    ensures takes { IfOk result (λ taken. (judge : Judge) (words : Wording) (each : Bool) (came written : List ℕ) (found : List Finding) (passed : ℕ) → Serves judge filter.now
+    ensures takes { IfOk result (λ taken. (judge : Judge) (words : Wording) (each : Bool) (came written : List ℕ) (found : List Finding) (passed : ℕ) → Serves judge program_judge.now
         → IsTally words each tally.old written found passed → IsAt judge came found passed packets.old bytes.now
         → TakesTo judge words each came written bytes.now packets.new tally.new taken) }
 {
@@ -113,7 +113,7 @@ fn take_packets(
         let rest = after(bytes, taken);
         match packets.next(rest) {
             Ok(Step::Message(packet)) => {
-                let finding = finding_of(alloc, filter, packet, rest)?;
+                let finding = finding_of(alloc, program_judge, packet, rest)?;
                 tally.take(finding)?;
                 taken += packet.len;
             }
@@ -128,23 +128,23 @@ fn take_packets(
     }
 }
 
-/// What a filter says of a packet.
+/// What a judge says of a packet.
 fn finding_of(
     alloc: Global,
-    filter: &Filter,
+    program_judge: &ProgramJudge,
     packet: Packet,
     bytes: &[u8],
 ) -> Result<Finding, AllocError>
     requires in_order { packet.start ≤ packet.end }
     requires there { packet.end ≤ length bytes.now }
-    ensures { IfOk result (λ finding. (judge : Judge) → Serves judge filter.now → IsFinding judge (message_in packet bytes.now) finding) }
+    ensures { IfOk result (λ finding. (judge : Judge) → Serves judge program_judge.now → IsFinding judge (message_in packet bytes.now) finding) }
 {
     if packet.is_cut {
         return Ok(Finding::Cut);
     }
     match View::read(packet.message(bytes)) {
         Ok(message) => {
-            let judgement = filter.judge(alloc, &message)?;
+            let judgement = program_judge.judge(alloc, &message)?;
             Ok(Finding::Judged(judgement))
         }
         Err(fault) => Ok(Finding::NoMessage(fault)),

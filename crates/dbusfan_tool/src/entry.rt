@@ -10,7 +10,7 @@ ghost use Rattle.command_line.specs.Files.{MadeReads};
 ghost use Rattle.command_line.specs.Output.{Puts, PutsParts, PutsAfterLines};
 
 use crate::answer::Answer;
-use crate::{assembling, checking, compiling, help, matching, running};
+use crate::{assembling, checking, compiling, filters, help, matching, running};
 use command_line::{CommandRow, Fault, Files, Output, Writer};
 use std::alloc::Global;
 
@@ -62,9 +62,18 @@ fn answer<'a, F: Files, O: Writer>(
                 why,
             },
         ) => matching::answer(alloc, rule, file, owns, each, why, files, out),
+        Some(
+            CommandRow::MatchFilter {
+                filter,
+                file,
+                owns,
+                each,
+            },
+        ) => filters::match_answer(alloc, filter, file, owns, each, files, out),
         Some(CommandRow::Asm { file }) => assembling::answer(alloc, file, files),
         Some(CommandRow::Check { file }) => checking::answer(alloc, file, files),
         Some(CommandRow::Compile { rule }) => compiling::answer(alloc, rule),
+        Some(CommandRow::CompileFilter { filter }) => filters::compile_answer(alloc, filter),
         Some(
             CommandRow::Run {
                 program,

@@ -5,7 +5,7 @@ ghost use Rattle.captures.specs.Beginnings.{is_capture};
 ghost use Rattle.command_line.specs.Files.{Broken};
 ghost use Rattle.command_line.specs.Output.{PutsParts};
 ghost use Rattle.dbusfan_tool.specs.Judges.{Judge};
-ghost use Rattle.dbusfan_tool.specs.Filters.{Serves};
+ghost use Rattle.dbusfan_tool.specs.Serving.{Serves};
 ghost use Rattle.dbusfan_tool.specs.FileJudgements.{SaysOfFile};
 ghost use Rattle.dbusfan_tool.specs.CaptureSteps.{so_far};
 ghost use Rattle.dbusfan_tool.specs.FirstBytes.{IsSure, FindsMessage, FailsToRead};
@@ -14,25 +14,25 @@ ghost use Rattle.dbusfan_tool.specs.Views.{SaysAfter};
 use crate::answer::Answer;
 use crate::beginning::Beginning;
 use crate::capturing::judge_capture;
-use crate::filter::Filter;
 use crate::judgement::Judgement;
+use crate::program_judge::ProgramJudge;
 use crate::report::answer_of_outcome;
 use captures::is_capture;
 use command_line::{Fault, Files, Output, Writer, decode};
 use message_view::View;
 use std::alloc::Global;
 
-/// What a filter says of the message in a file, or of the messages of the capture that it is. The lines of a capture's
+/// What a judge says of the message in a file, or of the messages of the capture that it is. The lines of a capture's
 /// messages are written as they are found.
 pub(crate) fn answer<F: Files, O: Writer>(
     alloc: Global,
-    filter: &Filter,
+    program_judge: &ProgramJudge,
     file: &str,
     each: bool,
     files: &mut F,
     out: &mut Output<O>,
 ) -> Answer
-    ensures { (judge : Judge) → Serves judge filter.now → (written : List ℕ) × PutsParts O.takes O.flushes O.may_fail out.old out.new written
+    ensures { (judge : Judge) → Serves judge program_judge.now → (written : List ℕ) × PutsParts O.takes O.flushes O.may_fail out.old out.new written
         × SaysAfter (SaysOfFile (λ content. F.gives files.old file.now content files.new) judge each) written result }
 {
     let beginning = match begin(alloc, file, each, files) {
@@ -40,10 +40,10 @@ pub(crate) fn answer<F: Files, O: Writer>(
         Err(fault) => return Answer::Fault(fault),
     };
     if is_taken(each, &beginning.bytes) {
-        return capture_answer(alloc, filter, each, files, beginning, out);
+        return capture_answer(alloc, program_judge, each, files, beginning, out);
     }
-    match outcome(alloc, filter, files, beginning) {
-        Ok(outcome) => answer_of_outcome(alloc, filter.words, &outcome),
+    match outcome(alloc, program_judge, files, beginning) {
+        Ok(outcome) => answer_of_outcome(alloc, program_judge.words, &outcome),
         Err(fault) => Answer::Fault(fault),
     }
 }
@@ -73,37 +73,37 @@ fn begin<F: Files>(alloc: Global, file: &str, each: bool, files: &mut F) -> Resu
 
 fn capture_answer<F: Files, O: Writer>(
     alloc: Global,
-    filter: &Filter,
+    program_judge: &ProgramJudge,
     each: bool,
     files: &mut F,
     beginning: Beginning,
     out: &mut Output<O>,
 ) -> Answer
-    ensures { (judge : Judge) (before : F) (name : List ℕ) → Serves judge filter.now → F.gives before name (so_far beginning.is_open beginning.bytes.items) files.old
+    ensures { (judge : Judge) (before : F) (name : List ℕ) → Serves judge program_judge.now → F.gives before name (so_far beginning.is_open beginning.bytes.items) files.old
         → (each || is_capture beginning.bytes.items) ≡ true → (each ≡ false → IsSure beginning)
         → (written : List ℕ) × PutsParts O.takes O.flushes O.may_fail out.old out.new written
         × SaysAfter (SaysOfFile (λ content. F.gives before name content files.new) judge each) written result }
 {
-    match judge_capture(alloc, filter, each, files, beginning, out) {
+    match judge_capture(alloc, program_judge, each, files, beginning, out) {
         Ok(end) => end.tally.answer(end.fault),
         Err(fault) => Answer::Fault(fault),
     }
 }
 
-/// What a filter says of the message that a file has as hexadecimal text.
+/// What a judge says of the message that a file has as hexadecimal text.
 fn outcome<F: Files>(
     alloc: Global,
-    filter: &Filter,
+    program_judge: &ProgramJudge,
     files: &mut F,
     beginning: Beginning,
 ) -> Result<Judgement, Fault>
-    ensures { (judge : Judge) (before : F) (name : List ℕ) → Serves judge filter.now → F.gives before name (so_far beginning.is_open beginning.bytes.items) files.old
+    ensures { (judge : Judge) (before : F) (name : List ℕ) → Serves judge program_judge.now → F.gives before name (so_far beginning.is_open beginning.bytes.items) files.old
         → is_capture beginning.bytes.items ≡ false → IsSure beginning
         → FindsMessage (λ content. F.gives before name content files.new) judge result }
 {
     let text = beginning.read_rest(files)?;
     let bytes = decode(alloc, &text)?;
     let message = View::read(&bytes)?;
-    let outcome = filter.judge(alloc, &message)?;
+    let outcome = program_judge.judge(alloc, &message)?;
     Ok(outcome)
 }

@@ -7,7 +7,7 @@ ghost use Rattle.command_line.specs.Output.{PutsParts};
 ghost use Rattle.match_rule.specs.RuleTree.{RuleTree};
 ghost use Rattle.match_rule.specs.Grammar.{ReadsAs};
 ghost use Rattle.dbusfan_tool.specs.Compiling.{IsRuleFault};
-ghost use Rattle.dbusfan_tool.specs.Filters.{Serves};
+ghost use Rattle.dbusfan_tool.specs.Serving.{Serves};
 ghost use Rattle.dbusfan_tool.specs.Judges.{by_rule};
 ghost use Rattle.dbusfan_tool.specs.Tool.{Tool, front_of};
 ghost use Rattle.dbusfan_tool.specs.Views.{SaysAfter};
@@ -15,7 +15,7 @@ ghost use Rattle.dbusfan_tool.specs.Views.{SaysAfter};
 use crate::answer::Answer;
 use crate::compiling::program_of;
 use crate::file_judging;
-use crate::filter::Filter;
+use crate::program_judge::ProgramJudge;
 use command_line::{Fault, Files, Output, Writer};
 use match_rule::Rule;
 use std::alloc::Global;
@@ -34,8 +34,8 @@ pub(crate) fn answer<F: Files, O: Writer>(
     ensures { (written : List ℕ) × PutsParts O.takes O.flushes O.may_fail out.old out.new written
         × SaysAfter (Tool (MadeReads F.gives files.old files.new) (to_match rule.now file.now owns each why)) written result }
 {
-    match rule_filter(alloc, rule, owns, front_of(why, each)) {
-        Ok(filter) => { file_judging::answer(alloc, &filter, file, each, files, out) }
+    match rule_judge(alloc, rule, owns, front_of(why, each)) {
+        Ok(program_judge) => { file_judging::answer(alloc, &program_judge, file, each, files, out) }
         Err(fault) => Answer::Fault(fault),
     }
 }
@@ -52,17 +52,17 @@ fn front_of(why: bool, each: bool) -> Option<&'static str>
     }
 }
 
-/// The filter of the rule that a text spells, or the first fault.
-fn rule_filter(
+/// The judge of the rule that a text spells, or the first fault.
+fn rule_judge(
     alloc: Global,
     rule: &str,
     owns: bool,
     front: Option<&'static str>,
-) -> Result<Filter, Fault>
-    ensures found { IfOk result (λ filter. (tree : RuleTree) × ReadsAs rule.now tree × Serves (by_rule tree owns (option_map (λ text. text.now) front.entry)) filter) }
+) -> Result<ProgramJudge, Fault>
+    ensures found { IfOk result (λ program_judge. (tree : RuleTree) × ReadsAs rule.now tree × Serves (by_rule tree owns (option_map (λ text. text.now) front.entry)) program_judge) }
     ensures fault { IfErr result (λ fault. IsRuleFault rule.now fault ⊎ (fault ≡ Fault.Memory)) }
 {
     let rule = Rule::read(alloc, rule)?;
     let program = program_of(alloc, &rule)?;
-    Ok(Filter::of_rule(program, rule, owns, front))
+    Ok(ProgramJudge::of_rule(program, rule, owns, front))
 }

@@ -2,12 +2,15 @@
 
 use crate::beginning::Beginning;
 use crate::capture_fault::capture_fault;
-use crate::sentences::{of_capture, of_code, of_message, of_rule};
+use crate::expression_words::{word_at, word_before};
+use crate::sentences::{of_capture, of_code, of_filter, of_message, of_rule};
 use bpf_code::CodeError;
 use bpf_text::assemble_bytes;
 use bpf_verify::{VerifyError, verify};
 use captures::{CaptureError, is_capture};
 use command_line::{CommandRow, FileError, Files, HexError, decode, fault_of};
+use filter::{FaultAt, Filter, FilterError};
+use filter_compile::{CompileError, compile};
 use match_key::RuleError;
 use match_rule::Rule;
 use message_value::MsgError;
@@ -32,6 +35,12 @@ enum Reason<'a> {
         key: &'a str,
         fault: RuleError,
     },
+    /// The first fault of a filter expression.
+    Filter {
+        expression: &'a str,
+        at: FaultAt,
+    },
+    HeavyFilter,
     /// A byte of a file that is no hexadecimal digit.
     NoDigit {
         file: &'a str,
@@ -70,6 +79,19 @@ impl<'a> fmt::Display for Reason<'a> {
                 write!(f, "rule, at {place}: ")?;
                 of_rule(f, key, *fault)
             }
+            Reason::Filter { expression, at } => {
+                let place = at.place;
+                write!(f, "filter, at {place}: ")?;
+                of_filter(
+                    f,
+                    word_at(expression, place),
+                    word_before(expression, place),
+                    at.fault,
+                )
+            }
+            Reason::HeavyFilter => f.write_str(
+                "filter: it has more tests than a program has room for",
+            ),
             Reason::NoDigit { file, line, column } => write!(
                 f,
                 "{file}, line {line}, column {column}: not a hexadecimal digit"
@@ -126,7 +148,19 @@ pub fn reason_for<'a, F: Files>(
             Some(reason) => Some(reason),
             None => message_reason(alloc, file, each, files)?,
         },
+        Some(
+            CommandRow::MatchFilter {
+                filter,
+                file,
+                each,
+                ..
+            },
+        ) => match filter_reason(alloc, filter)? {
+            Some(reason) => Some(reason),
+            None => message_reason(alloc, file, each, files)?,
+        },
         Some(CommandRow::Compile { rule }) => rule_reason(alloc, rule)?,
+        Some(CommandRow::CompileFilter { filter }) => filter_reason(alloc, filter)?,
         Some(
             CommandRow::Run {
                 program,
@@ -188,6 +222,19 @@ fn key_of(piece: &str) -> &str {
     match piece.split_once('=') {
         Some((key, _)) => key,
         None => piece,
+    }
+}
+
+fn filter_reason<'a>(alloc: Global, expression: &'a str) -> Result<Option<Reason<'a>>, AllocError> {
+    let filter = match Filter::read(alloc, expression) {
+        Ok(filter) => filter,
+        Err(FilterError::Fault(at)) => return Ok(Some(Reason::Filter { expression, at })),
+        Err(FilterError::NoMemory) => return Err(AllocError),
+    };
+    match compile(alloc, &filter) {
+        Ok(_) => Ok(None),
+        Err(CompileError::TooHeavy) => Ok(Some(Reason::HeavyFilter)),
+        Err(CompileError::NoMemory) => Err(AllocError),
     }
 }
 

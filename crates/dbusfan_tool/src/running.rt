@@ -9,8 +9,8 @@ ghost use Rattle.dbusfan_tool.specs.Views.{SaysAfter};
 
 use crate::answer::Answer;
 use crate::file_judging;
-use crate::filter::Filter;
 use crate::program::verified_file;
+use crate::program_judge::ProgramJudge;
 use command_line::{Files, Output, Writer};
 use std::alloc::Global;
 use summary::Edition;
@@ -30,8 +30,8 @@ pub(crate) fn answer<F: Files, O: Writer>(
 {
     match verified_file(alloc, program, files) {
         Ok(program) => {
-            let filter = Filter::of_program(program, edition);
-            file_judging::answer(alloc, &filter, file, each, files, out)
+            let program_judge = ProgramJudge::of_program(program, edition);
+            file_judging::answer(alloc, &program_judge, file, each, files, out)
         }
         Err(fault) => Answer::Fault(fault),
     }

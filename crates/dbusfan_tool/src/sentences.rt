@@ -2,6 +2,7 @@
 
 use bpf_code::CodeError;
 use captures::CaptureError;
+use filter::Fault;
 use match_key::RuleError;
 use message_value::MsgError;
 use std::fmt;
@@ -21,6 +22,49 @@ pub(crate) fn of_rule<W: fmt::Write>(
         RuleError::TooLong | RuleError::PathTwice | RuleError::NoMemory => {
             f.write_str(fault.sentence())
         }
+    }
+}
+
+/// Of a filter expression, in which this word stands at the fault, and this one or a sign before it.
+pub(crate) fn of_filter<W: fmt::Write>(
+    f: &mut fmt::Formatter<W>,
+    word: &str,
+    before: &str,
+    fault: Fault,
+) -> fmt::Result {
+    match fault {
+        Fault::TooLong => f.write_str("an expression has at most 4096 bytes"),
+        Fault::BadByte => f.write_str("no word and no sign begins with this byte"),
+        Fault::Unquoted => f.write_str("the quoted text isn't closed"),
+        Fault::BadEscape => {
+            f.write_str("in quotes a backslash stands before a backslash or a quote")
+        }
+        Fault::NoTest => wanted_after(f, "a test", before),
+        Fault::UnknownWord => write!(f, "no test begins with {word}"),
+        Fault::ArgNumber => write!(f, "{word} isn't of one of the arguments 0 to 63"),
+        Fault::Depth => f.write_str("more than 64 parentheses and nots are open"),
+        Fault::BadNumber => write!(f, "{word} is no integer from -2^63 to 2^64 - 1"),
+        Fault::Unopened => f.write_str("this parenthesis closes nothing"),
+        Fault::Unclosed => f.write_str("a parenthesis isn't closed"),
+        Fault::BadOperator => wanted_after(f, "an operator", before),
+        Fault::BadValue => wanted_after(f, "a value that fits", before),
+        Fault::BadType => f.write_str(
+            "a type is wanted after is, one of y b n q i u x t d s o g h a v r",
+        ),
+        Fault::BadField => f.write_str("a field or an argument is wanted after has"),
+        Fault::NoConnective => wanted_after(f, "and, or, or the end", before),
+    }
+}
+
+fn wanted_after<W: fmt::Write>(
+    f: &mut fmt::Formatter<W>,
+    wanted: &str,
+    before: &str,
+) -> fmt::Result {
+    if before.is_empty() {
+        write!(f, "{wanted} is wanted")
+    } else {
+        write!(f, "{wanted} is wanted after {before}")
     }
 }
 

@@ -4,7 +4,7 @@ ghost use Rattle.std.specs.Prelude.{IfOk, option_map, string_bytes};
 ghost use Rattle.message_view.specs.Message.{Message};
 ghost use Rattle.message_view.specs.Valid.{Valid};
 ghost use Rattle.dbusfan_tool.specs.Judges.{AreTold};
-ghost use Rattle.dbusfan_tool.specs.Filters.{Explains};
+ghost use Rattle.dbusfan_tool.specs.Serving.{Explains};
 
 use match_rule::Rule;
 use message_view::View;

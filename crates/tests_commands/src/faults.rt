@@ -4,11 +4,18 @@
 use bpf_code::CodeError;
 use bpf_verify::VerifyError;
 use dbusfan_tool::Fault;
+use filter::FaultAt;
 
 // A fault prints what its line has between `dbusfan: ` and the end of the line.
 #[test]
 fn faults_and_their_lines(rt: HostRuntime) {
+    let unknown_word = FaultAt {
+        fault: filter::Fault::UnknownWord,
+        place: 14,
+    };
     for (fault, text) in [
+        (Fault::Filter(unknown_word), "filter UnknownWord at 14"),
+        (Fault::HeavyFilter, "filter TooHeavy"),
         (Fault::Code(CodeError::Line(1)), "code Line at 1"),
         (Fault::Code(CodeError::Length), "code Length"),
         (Fault::Program(VerifyError::Jump(7)), "program Jump at 7"),

@@ -28,6 +28,7 @@ fn help(rt: HostRuntime) {
         "match|--help",
         "match|-h",
         "match||F|--help",
+        "match|--filter|signal|F|--help",
         "asm|--help",
         "help|check",
         "compile|--help",

@@ -59,6 +59,44 @@ fn rules(rt: HostRuntime) {
 }
 
 #[test]
+fn filters(rt: HostRuntime) {
+    for (line, said) in [
+        (
+            "compile|--filter|member 5",
+            "filter, at 7: an operator is wanted after member",
+        ),
+        (
+            "match|F|--filter|member = c or d",
+            "filter, at 14: no test begins with d",
+        ),
+        (
+            "match|F|--filter|member = a.b",
+            "filter, at 9: a value that fits is wanted after =",
+        ),
+        (
+            "compile|--filter|(signal)(call)",
+            "filter, at 8: and, or, or the end is wanted after (signal)",
+        ),
+        (
+            "compile|--filter|path = '/a b' signal",
+            "filter, at 7: a value that fits is wanted after =",
+        ),
+        (
+            "compile|--filter|arg0 = 'a b' signal",
+            "filter, at 13: and, or, or the end is wanted",
+        ),
+        (
+            "compile|--filter|arg64 = 1",
+            "filter, at 0: arg64 isn't of one of the arguments 0 to 63",
+        ),
+        ("compile|--filter|", "filter, at 0: a test is wanted"),
+        ("match|F|--filter|signal", ""),
+    ] {
+        expect(&rt, rt.alloc(), line, S1.as_bytes(), said);
+    }
+}
+
+#[test]
 fn texts(rt: HostRuntime) {
     let alloc = rt.alloc();
     let line = "match|member='c'|F";
@@ -192,6 +230,14 @@ fn words_of_no_row(rt: HostRuntime) {
         (
             "match",
             "the following required arguments were not provided: <RULE> <FILE>; see dbusfan match --help",
+        ),
+        (
+            "match|--filter|signal",
+            "the following required arguments were not provided: <FILE>; see dbusfan match --help",
+        ),
+        (
+            "match|--filter|signal|member='c'|F",
+            "unexpected argument 'F' found; see dbusfan match --help",
         ),
         (
             "match|--owns=1|a|F",

@@ -33,6 +33,9 @@ fn rules(rt: HostRuntime) {
     expect_rules(&rt, alloc, &["session", "--monitor"], &[]);
     expect_rules(&rt, alloc, &["session", "--calls"], &[]);
     expect_rules(&rt, alloc, &["session", "--summary"], &[]);
+    expect_rules(&rt, alloc, &["session", "--top"], &[]);
+    expect_rules(&rt, alloc, &["session", "--filter", "signal"], &[]);
+    expect_rules(&rt, alloc, &["session", "a", "--filter", "-"], &["a"]);
     expect_rules(&rt, alloc, &["session", "a", "--why"], &["a"]);
 }
 
@@ -80,6 +83,16 @@ fn settings(rt: HostRuntime) {
 }
 
 #[test]
+fn filters(rt: HostRuntime) {
+    let words = ["session", "--filter", "signal or error", "--attach"];
+    let options = options_of(&rt, rt.alloc(), &words);
+    assert_eq!(rt; options.text_of(Key::Filter), Some("signal or error"));
+    assert!(rt; options.has(Key::Attach));
+    let options = options_of(&rt, rt.alloc(), &["--read", "f", "--filter", "call"]);
+    assert_eq!(rt; options.text_of(Key::Filter), Some("call"));
+}
+
+#[test]
 fn captures(rt: HostRuntime) {
     let options = options_of(&rt, rt.alloc(), &["--read", "f", "a"]);
     assert_eq!(rt; options.address(), None);
@@ -119,6 +132,18 @@ fn no_command(rt: HostRuntime) {
         "session a --full --hex",
         "session a b --why",
         "session a --why --invert",
+        "session --filter",
+        "session --filter e --filter e",
+        "session --filter e --program p",
+        "session --filter e --edition 2",
+        "session --rules f --filter e",
+        "session --of n --filter e",
+        "session a --filter e --attach",
+        "session --filter e --attach --monitor",
+        "session a --why --filter e",
+        "session --top --calls",
+        "session --top --json",
+        "--read f --top",
         "session a --other",
     ] {
         let words: Vec<&str> = match line.split(' ').collect(rt.alloc()) {

@@ -1,8 +1,9 @@
 -- What is counted of messages, by sender and member, and the table of it (own).
-use Rattle.std.specs.Prelude.{◌≡◌, ◌+◌, ◌-◌, ◌*◌, ◌/◌, ◌^◌, ◌==◌, ◌||◌, min, ℕ, nat_lt, List, ◌++◌, length, Option, Some, is_some, codes, decimal, String, string_bytes, if◌then◌else◌}
+use Rattle.std.specs.Prelude.{◌≡◌, ◌+◌, ◌-◌, ◌*◌, ◌/◌, ◌^◌, ◌==◌, ◌||◌, min, ℕ, nat_lt, List, ◌++◌, length, Option, Some, is_some, codes, decimal, String, string_bytes, IsSortedByKey, if◌then◌else◌}
 use Rattle.std.specs.List.{flat_map}
-use Rattle.std.specs.List.Sorted.{IsPermutation, IsSorted}
+use Rattle.std.specs.List.Sorted.{IsPermutation, IsSorted, IsStableByKey}
 use Rattle.std.specs.Map.{keys_of, lookup}
+use Rattle.std.specs.Ordering.{nat_cmp}
 use Rattle.std.specs.Option.{unwrap_or}
 use Rattle.std.specs.Str.{bytes_eq}
 use Rattle.std.specs.String.{string_cmp}
@@ -39,6 +40,18 @@ TakesMessage name len before after =
 pub record AreInOrder (before after : SenderRows) : Type 0 where
   pub sorted : IsSorted string_cmp (keys_of after)
   pub same : IsPermutation before after
+
+-- how far messages are below the greatest count
+abbrev pub rarity : Messages → ℕ
+rarity messages = 2 ^ 64 - 1 - messages.count
+
+-- the same rows, those with the most messages first, and those with as many in the order of their names
+pub record AreByCount (before after : SenderRows) : Type 0 where
+  pub named : SenderRows
+  pub names : AreInOrder before named
+  pub sorted : IsSortedByKey (λ (row : String Global × Messages). rarity row.1) nat_cmp after
+  pub ties : IsStableByKey (λ (row : String Global × Messages). rarity row.1) nat_cmp named after
+  pub same : IsPermutation named after
 
 -- how many messages came in a second, over a time in microseconds
 abbrev pub rate_column : ℕ → ℕ → List ℕ

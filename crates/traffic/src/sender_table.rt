@@ -1,9 +1,9 @@
 // What is counted of messages, by sender and member.
 
-ghost use Rattle.std.specs.Prelude.{◌≡◌, ◌++◌, ◌/◌, OnOk, option_map, string_bytes};
+ghost use Rattle.std.specs.Prelude.{◌≡◌, ◌++◌, ◌-◌, ◌/◌, ◌^◌, OnOk, option_map, string_bytes, take};
 ghost use Rattle.std.specs.Option.{option_to_list};
 ghost use Rattle.std.specs.Map.Iter.{deref_pair};
-ghost use Rattle.traffic.specs.Senders.{with_message, sender_lines, sender_line, rate_column};
+ghost use Rattle.traffic.specs.Senders.{with_message, rarity, sender_lines, sender_line, rate_column};
 
 use crate::columns::{put_name, put_right, put_thousandths};
 use indexmap::IndexMap;
@@ -61,8 +61,8 @@ impl Model for SenderTable {
 }
 
 impl SenderTable {
-    ghost use Rattle.std.specs.Prelude.{◌≡◌, [], OnOk, IfOk, string_bytes};
-    ghost use Rattle.traffic.specs.Senders.{TakesMessage, sender_counted_as, sender_report, AreInOrder};
+    ghost use Rattle.std.specs.Prelude.{◌≡◌, [], take, OnOk, IfOk, string_bytes};
+    ghost use Rattle.traffic.specs.Senders.{TakesMessage, sender_counted_as, sender_report, rarity, AreInOrder, AreByCount};
 
     /// No messages, which takes no memory.
     pub fn new(alloc: Global) -> SenderTable
@@ -122,21 +122,57 @@ impl SenderTable {
     {
         self.rows.sort_keys()?;
         let mut text = String::from_str(alloc, HEAD)?;
-        put_lines(alloc, &mut text, &self.rows, time)?;
+        put_lines(alloc, &mut text, &self.rows, self.rows.len(), time)?;
         Ok(text)
+    }
+
+    /// Puts the rows with the most messages first, and those with as many in the order of their names, and answers a table of
+    /// the first of them, at most as many as are said, as `report` does.
+    ///
+    /// # Errors
+    ///
+    /// Memory was refused.
+    pub fn busiest(&mut self, alloc: Global, time: u64, most: usize) -> Result<String, AllocError>
+        ensures order { OnOk result (AreByCount self.old self.new) }
+        ensures text { IfOk result (λ text. string_bytes text ≡ sender_report time (take most self.new)) }
+    {
+        self.sort_by_count()?;
+        let mut text = String::from_str(alloc, HEAD)?;
+        put_lines(alloc, &mut text, &self.rows, most, time)?;
+        Ok(text)
+    }
+
+    /// Puts the rows with the most messages first, and those with as many in the order of their names.
+    fn sort_by_count(&mut self) -> Result<(), AllocError>
+        ensures { OnOk result (AreByCount self.old self.new) }
+    {
+        self.rows.sort_keys()?;
+        self.rows.sort_by_key(
+            |_name: &String, messages: &Messages| -> u64
+                ensures { result ≡ rarity messages.now }
+            { rarity(*messages) },
+        )
     }
 }
 
-/// Adds a line for each row.
+/// How far messages are below the greatest count: the fewer there are, the greater it is.
+fn rarity(messages: Messages) -> u64
+    ensures { result ≡ rarity messages }
+{
+    u64::MAX - messages.count
+}
+
+/// Adds a line for each of the first rows, at most as many as are said.
 fn put_lines(
     alloc: Global,
     text: &mut String,
     rows: &IndexMap<String, Messages>,
+    most: usize,
     time: u64,
 ) -> Result<(), AllocError>
-    ensures { OnOk result (string_bytes text.new ≡ string_bytes text.old ++ sender_lines time rows.now.entries) }
+    ensures { OnOk result (string_bytes text.new ≡ string_bytes text.old ++ sender_lines time (take most rows.now.entries)) }
 {
-    for place in 0..rows.len() {
+    for place in 0..most {
         put_row(alloc, text, rows.get_index(place), time)?;
     }
     Ok(())

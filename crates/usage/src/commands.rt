@@ -17,6 +17,13 @@ pub(crate) struct ArgumentHelp {
     pub(crate) text: &'static str,
 }
 
+impl ArgumentHelp {
+    /// Is it left out where `--filter` is given?
+    pub(crate) fn yields_to_filter(&self) -> bool {
+        self.name == "RULE" && matches!(self.form, Form::Word)
+    }
+}
+
 /// How an argument is given.
 #[derive(Clone, Copy)]
 pub(crate) enum Form {
@@ -66,8 +73,8 @@ impl Value {
 pub(crate) static COMMANDS: [CommandHelp; 7] = [
     CommandHelp {
         name: "match",
-        about: "Says whether a rule matches a message, or messages of a capture",
-        arguments: &[RULE, MESSAGE, OWNS, EACH, WHY],
+        about: "Says whether a rule or a filter matches a message, or messages of a capture",
+        arguments: &[RULE, MESSAGE, FILTER, OWNS, EACH, WHY],
     },
     CommandHelp {
         name: "asm",
@@ -81,8 +88,8 @@ pub(crate) static COMMANDS: [CommandHelp; 7] = [
     },
     CommandHelp {
         name: "compile",
-        about: "Prints the program of a rule as assembler text",
-        arguments: &[RULE],
+        about: "Prints the program of a rule or a filter as assembler text",
+        arguments: &[RULE, FILTER],
     },
     CommandHelp {
         name: "run",
@@ -191,10 +198,16 @@ pub(crate) static COMMANDS: [CommandHelp; 7] = [
             },
             EDITION,
             ArgumentHelp {
+                name: "filter",
+                form: Form::Value(Value::Text("EXPR")),
+                is_required: false,
+                text: "Only messages that this filter expression holds of, as \"signal and member = c\"; it runs here",
+            },
+            ArgumentHelp {
                 name: "attach",
                 form: Form::Flag,
                 is_required: false,
-                text: "Has the bus run the program, which one of dbusfan's own can do",
+                text: "Has the bus run the program or the filter, which one of dbusfan's own can do",
             },
             ArgumentHelp {
                 name: "monitor",
@@ -249,6 +262,12 @@ pub(crate) static COMMANDS: [CommandHelp; 7] = [
                 form: Form::Flag,
                 is_required: false,
                 text: "Shows only a table at the end: who sent what, how many messages, bytes and messages a second",
+            },
+            ArgumentHelp {
+                name: "top",
+                form: Form::Flag,
+                is_required: false,
+                text: "Shows this table on a terminal, the most messages first, anew each second, until --seconds or Ctrl-C",
             },
             ArgumentHelp {
                 name: "hex",
@@ -328,11 +347,18 @@ const MESSAGE: ArgumentHelp = ArgumentHelp {
     text: "A message as hexadecimal text, or a pcap or pcapng capture",
 };
 
+const FILTER: ArgumentHelp = ArgumentHelp {
+    name: "filter",
+    form: Form::Value(Value::Text("EXPR")),
+    is_required: false,
+    text: "A filter expression in place of RULE, as \"signal and arg0 = 70\"; see dbusfan-filter(7)",
+};
+
 const OWNS: ArgumentHelp = ArgumentHelp {
     name: "owns",
     form: Form::Flag,
     is_required: false,
-    text: "The sender owns the rule's well-known name",
+    text: "The sender owns the rule's well-known name, or those that the filter asks for",
 };
 
 const EACH: ArgumentHelp = ArgumentHelp {

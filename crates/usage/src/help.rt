@@ -39,13 +39,15 @@ fn is_request(word: &str) -> bool
 }
 
 pub(crate) fn parse<'a>(alloc: Global, words: &'a [&'a str]) -> Result<ArgMatches<'a>, Error> {
-    dbusfan(alloc)?.try_get_matches_from(words)
+    dbusfan(alloc, words)?.try_get_matches_from(words)
 }
 
-fn dbusfan<'a>(alloc: Global) -> Result<Command<'a>, AllocError> {
+// The program as these words may call it: beside a filter no rule is wanted.
+fn dbusfan<'a>(alloc: Global, words: &[&str]) -> Result<Command<'a>, AllocError> {
+    let has_filter = words.iter().any(|word| *word == "--filter");
     let mut program = program(alloc)?;
     for command in &COMMANDS {
-        program = program.subcommand(subcommand(alloc, command)?)?;
+        program = program.subcommand(subcommand(alloc, command, has_filter)?)?;
     }
     Ok(program)
 }
@@ -61,10 +63,16 @@ fn program<'a>(alloc: Global) -> Result<Command<'a>, AllocError> {
         .bin_name("dbusfan")
 }
 
-fn subcommand<'a>(alloc: Global, help: &CommandHelp) -> Result<Command<'a>, AllocError> {
+fn subcommand<'a>(
+    alloc: Global,
+    help: &CommandHelp,
+    has_filter: bool,
+) -> Result<Command<'a>, AllocError> {
     let mut command = Command::new(alloc, help.name).about(help.about);
     for argument in help.arguments {
-        command = command.arg(arg(alloc, argument))?;
+        if !has_filter || !argument.yields_to_filter() {
+            command = command.arg(arg(alloc, argument))?;
+        }
     }
     Ok(command)
 }

@@ -4,3 +4,4 @@ pub mod SaidWords
 pub mod WordTable
 pub mod RulesCounted
 pub mod Takes
+pub mod Expressions

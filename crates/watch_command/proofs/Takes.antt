@@ -1,10 +1,11 @@
 -- Which rules take a message.
-use Rattle.std.proofs.Common.{◌≡◌, ◌↔◌, ℕ, ◌+◌, ◌<◌, Bool, List, ◌∷◌, Option, Some, None, length, get_or, drop, inl, inr, sym, subst, ◌∙◌, ap, add-one, drop-cons, Bor, suc}
+use Rattle.std.proofs.Common.{◌≡◌, ◌↔◌, ℕ, ◌+◌, ◌<◌, Bool, true, false, List, ◌∷◌, Option, Some, None, length, get_or, drop, inl, inr, sym, subst, ◌∙◌, ap, add-one, drop-cons, Bor, suc}
 use Rattle.std.specs.Prelude.{IfSome, option_map}
 use Rattle.message_view.specs.Message.{Message}
 use Rattle.match_rule.specs.RuleTree.{RuleTree}
 use Rattle.watch_command.specs.Owners.{Ownerships, owns}
-use Rattle.watch_command.specs.Showing.{TakesRule, SomeTakes}
+use Rattle.watch_command.specs.Showing.{TakesRule, SomeTakes, AcceptsIfAny, IsTakenByRules, Selects}
+use Rattle.watch_command.specs.declared.criteria.Acceptor.{Acceptor}
 
 -- a rule's name of its sender is owned as far as the code found
 pub agreed : (owners : Ownerships) (asked : Option (Bor (List ℕ))) (name sent sender : Option (List ℕ)) (r : Bool) → option_map (λ (text : Bor (List ℕ)). text.now) asked ≡ name → sent ≡ sender → IfSome asked (λ (text : Bor (List ℕ)). owns owners sent text.now ≡ r) → IfSome name (λ (text : List ℕ). owns owners sender text ≡ r)
@@ -35,3 +36,8 @@ passed owners m rules i rule h is misses before =
 -- a rule that takes the message is one of all
 pub taken : (owners : Ownerships) (m : Message) (rules : List RuleTree) (i : ℕ) (rule : RuleTree) → i < length rules → rule ≡ get_or rules i rule → TakesRule owners m rule → (SomeTakes owners m (drop i rules) ↔ SomeTakes owners m rules) → SomeTakes owners m rules
 taken owners m rules i rule h is takes before = before.0 (subst (λ (l : List RuleTree). SomeTakes owners m l) (sym (rest_at rules i rule h is)) (inl takes))
+
+-- a message that the rules take is selected where it is accepted
+pub selected : (owners : Ownerships) (m : Message) (rules : List RuleTree) (acceptor : Option Acceptor) (accepted : Bool) → IsTakenByRules owners m rules → AcceptsIfAny owners m acceptor accepted → Selects owners m rules acceptor accepted
+selected owners m rules acceptor true taken accepts = (taken, accepts)
+selected owners m rules acceptor false taken accepts = λ _. accepts

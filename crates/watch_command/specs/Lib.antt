@@ -6,7 +6,10 @@ pub mod Counts
 pub mod Stamp
 pub mod Colours
 pub mod ShownText
+pub mod Screens
 pub mod Errors
+pub mod FilterFaults
 pub mod CountedRules
 pub mod RulesCounted
 pub mod KnownOwners
+pub mod Expressions

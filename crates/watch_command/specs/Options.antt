@@ -5,7 +5,7 @@ use Rattle.std.specs.Str.{bytes_eq}
 use Rattle.summary.specs.declared.edition.Edition.{Edition as AnEdition}
 use Rattle.summary.specs.declared.edition.Edition.TheVariants.{One, Two}
 use Rattle.watch_command.specs.declared.words.Key.{Key}
-use Rattle.watch_command.specs.declared.words.Key.TheVariants.{Attach, Calls, Clock, Count, Edition, Full, Hex, Invert, Json, Monitor, Names, Of, Patience, Program, Read, Rules, Seconds, Slow, Summary, Time, Why, Write}
+use Rattle.watch_command.specs.declared.words.Key.TheVariants.{Attach, Calls, Clock, Count, Edition, Filter, Full, Hex, Invert, Json, Monitor, Names, Of, Patience, Program, Read, Rules, Seconds, Slow, Summary, Time, Top, Why, Write}
 use Rattle.watch_command.specs.Sayings.{Saying, is_key, word_in, name_in}
 
 -- whether an option is said
@@ -41,24 +41,34 @@ excludes key others said = not (has key said) || not (list_any (is_said said) ot
 abbrev pub needs : Key → Key → List Saying → Bool
 needs key other said = not (has key said) || has other said
 
--- the options that don't go with one that asks the bus to run a program, or with a capture
+-- if an option is said, one of some others is
+abbrev pub needs_any : Key → List Key → List Saying → Bool
+needs_any key others said = not (has key said) || list_any (is_said said) others
+
+-- the options that don't go with a filter expression, with one that asks the bus to run a program, or with a capture
 abbrev pub fits_source : List Saying → Bool
 fits_source said =
-    needs Edition Program said && needs Attach Program said
+    needs Edition Program said && needs_any Attach (Program ∷ Filter ∷ []) said
+    && excludes Filter (Program ∷ Edition ∷ Rules ∷ Of ∷ []) said
     && excludes Attach (Monitor ∷ Invert ∷ Rules ∷ Of ∷ Read ∷ Calls ∷ []) said
-    && excludes Read (Monitor ∷ Seconds ∷ Names ∷ Of ∷ []) said
+    && excludes Read (Monitor ∷ Seconds ∷ Names ∷ Of ∷ Top ∷ []) said
     && excludes Of (Rules ∷ []) said
 
 -- the options that say which messages are shown, or how, don't go with one that has them counted
 abbrev pub excludes_forms : Key → List Saying → Bool
 excludes_forms key said = excludes key (Program ∷ Invert ∷ Time ∷ Clock ∷ Hex ∷ Json ∷ Write ∷ Names ∷ Full ∷ []) said
 
+-- the options that say which messages are counted, or how they are written, don't go with a table of who sent what
+abbrev pub excludes_lines : Key → List Saying → Bool
+excludes_lines key said = excludes key (Rules ∷ Of ∷ Calls ∷ Hex ∷ Json ∷ Write ∷ Time ∷ Clock ∷ Names ∷ Full ∷ []) said
+
 -- the options that don't go with one that says how messages are written
 abbrev pub fits_form : List Saying → Bool
 fits_form said =
     excludes_forms Rules said
     && excludes_forms Of said
-    && excludes Summary (Rules ∷ Of ∷ Calls ∷ Hex ∷ Json ∷ Write ∷ Time ∷ Clock ∷ Names ∷ Full ∷ []) said
+    && excludes_lines Summary said
+    && excludes_lines Top said
     && excludes Hex (Json ∷ Write ∷ Time ∷ Clock ∷ Names ∷ Full ∷ []) said
     && excludes Json (Write ∷ Time ∷ Clock ∷ Names ∷ Full ∷ []) said
     && excludes Write (Time ∷ Clock ∷ Names ∷ Full ∷ []) said
@@ -74,9 +84,13 @@ fits_calls said =
 abbrev pub is_monitor : List Saying → Bool
 is_monitor said = has Monitor said || has Calls said
 
+-- a table of who sent what is asked for
+abbrev pub is_summary : List Saying → Bool
+is_summary said = has Summary said || has Top said
+
 -- another option than a rule says which messages are wanted
 abbrev pub wants_all : List Saying → Bool
-wants_all said = has Read said || has Program said || has Summary said || is_monitor said
+wants_all said = has Read said || has Program said || has Filter said || is_summary said || is_monitor said
 
 -- how many of the words that are no options aren't rules: the address of a bus
 abbrev pub address_count : List Saying → ℕ
@@ -86,7 +100,7 @@ address_count said = if has Read said then 0 else 1
 abbrev pub fits_why : List Saying → Bool
 fits_why said =
     not (has Why said)
-    || (excludes Why (Program ∷ Invert ∷ Calls ∷ Summary ∷ Rules ∷ Of ∷ Hex ∷ Json ∷ Write ∷ []) said && length (names said) == address_count said + 1)
+    || (excludes Why (Program ∷ Filter ∷ Invert ∷ Calls ∷ Summary ∷ Top ∷ Rules ∷ Of ∷ Hex ∷ Json ∷ Write ∷ []) said && length (names said) == address_count said + 1)
 
 -- an address where there is no capture, and a rule at least where nothing else says what is wanted; none where something
 -- else says all

@@ -5,7 +5,7 @@ use Rattle.std.specs.List.{list_any}
 use Rattle.std.specs.Option.{option_map}
 use Rattle.std.specs.Str.{bytes_eq}
 use Rattle.watch_command.specs.declared.words.Key.{Key}
-use Rattle.watch_command.specs.declared.words.Key.TheVariants.{Attach, Calls, Clock, Count, Edition, Full, Hex, Invert, Json, Monitor, Names, Of, Patience, Program, Read, Rules, Seconds, Slow, Summary, Time, Why, Write}
+use Rattle.watch_command.specs.declared.words.Key.TheVariants.{Attach, Calls, Clock, Count, Edition, Filter, Full, Hex, Invert, Json, Monitor, Names, Of, Patience, Program, Read, Rules, Seconds, Slow, Summary, Time, Top, Why, Write}
 use Rattle.watch_command.specs.declared.words.Word.{Word}
 use Rattle.watch_command.specs.declared.words.Word.TheVariants as of_word
 use Rattle.watch_command.specs.declared.words.Awaited.{Awaited}
@@ -19,23 +19,25 @@ key_number Calls = 2
 key_number Clock = 3
 key_number Count = 4
 key_number Edition = 5
-key_number Full = 6
-key_number Hex = 7
-key_number Invert = 8
-key_number Json = 9
-key_number Monitor = 10
-key_number Names = 11
-key_number Of = 12
-key_number Patience = 13
-key_number Program = 14
-key_number Read = 15
-key_number Rules = 16
-key_number Seconds = 17
-key_number Slow = 18
-key_number Summary = 19
-key_number Time = 20
-key_number Why = 21
-key_number Write = 22
+key_number Filter = 6
+key_number Full = 7
+key_number Hex = 8
+key_number Invert = 9
+key_number Json = 10
+key_number Monitor = 11
+key_number Names = 12
+key_number Of = 13
+key_number Patience = 14
+key_number Program = 15
+key_number Read = 16
+key_number Rules = 17
+key_number Seconds = 18
+key_number Slow = 19
+key_number Summary = 20
+key_number Time = 21
+key_number Top = 22
+key_number Why = 23
+key_number Write = 24
 
 -- whether two options are the same
 abbrev pub key_eq : Key → Key → Bool
@@ -55,6 +57,7 @@ options =
     (codes "--clock", Clock) ∷
     (codes "--count", Count) ∷
     (codes "--edition", Edition) ∷
+    (codes "--filter", Filter) ∷
     (codes "--full", Full) ∷
     (codes "--hex", Hex) ∷
     (codes "--invert", Invert) ∷
@@ -70,6 +73,7 @@ options =
     (codes "--slow", Slow) ∷
     (codes "--summary", Summary) ∷
     (codes "--time", Time) ∷
+    (codes "--top", Top) ∷
     (codes "--why", Why) ∷
     (codes "--write", Write) ∷
     []
@@ -87,6 +91,7 @@ key_of word = key_in word options
 abbrev pub takes_word : Key → Bool
 takes_word Count = true
 takes_word Edition = true
+takes_word Filter = true
 takes_word Of = true
 takes_word Patience = true
 takes_word Program = true

@@ -3,9 +3,9 @@
 use crate::error::Fault;
 use crate::options::Options;
 use crate::owners::{BUS_NAME, Owners};
-use crate::plan::Plan;
+use crate::plan::{Attached, Plan};
 use crate::words::Key;
-use bus_client::Client;
+use bus_client::{Client, ClientError};
 use std::alloc::{AllocError, Global};
 use std::io::{Read, Write};
 use summary::Edition;
@@ -26,9 +26,8 @@ pub(crate) fn ask<S: Read + Write + Drop>(
     options: &Options<'_>,
     plan: &Plan<'_>,
 ) -> Result<Owners, Fault> {
-    if let Some(code) = &plan.attached {
-        let edition = options.edition().map(number_of);
-        client.attach(edition, code).map_err(Fault::of_attaching)?;
+    if let Some(attached) = &plan.attached {
+        attach(client, attached).map_err(Fault::of_attaching)?;
         return Ok(Owners::new(alloc));
     }
     let changes = owner_rules(alloc, options, plan)?;
@@ -42,6 +41,17 @@ pub(crate) fn ask<S: Read + Write + Drop>(
         add_rules(client, plan)?;
     }
     Ok(owners)
+}
+
+/// Has the bus run a program or a filter expression.
+fn attach<S: Read + Write + Drop>(
+    client: &mut Client<S>,
+    attached: &Attached<'_>,
+) -> Result<(), ClientError> {
+    match attached {
+        Attached::Program(edition, code) => client.attach(edition.map(number_of), code),
+        Attached::Filter(text) => client.attach_filter(text),
+    }
 }
 
 fn number_of(edition: Edition) -> u32 {

@@ -4,7 +4,7 @@ ghost use Rattle.std.specs.Prelude.{◌≡◌, ◌++◌, IfOk, OnOk, string_byte
 ghost use Rattle.watch_command.specs.Counts.{count_line, count_lines};
 ghost use Rattle.watch_command.specs.CountedRules.{text_counts};
 
-use crate::filter::rule_holds;
+use crate::criteria::rule_holds;
 use crate::owners::Owners;
 use match_rule::Rule;
 use message_view::View;

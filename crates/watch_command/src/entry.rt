@@ -12,11 +12,13 @@ use crate::owners::Owners;
 use crate::plan::Plan;
 use crate::reading::show_capture;
 use crate::reasons::explain;
+use crate::screen::Screen;
 use crate::selection::Selection;
 use crate::senders::Senders;
 use crate::sink::Sink;
 use crate::stamp::Stamp;
 use crate::style::{Device, Style, columns};
+use crate::top::Top;
 use crate::words::Key;
 use crate::zone::Zone;
 use bus_client::{Address, Client, Timed, addresses_of, connect};
@@ -89,10 +91,10 @@ where
     let Some(options) = Options::read(rt.alloc(), words)? else {
         return Err(Fault::Tool(command_line::Fault::Usage));
     };
-    let form = form_of(rt, device, &options);
+    let look = look_of(rt, device, &options);
     match (options.text_of(Key::Read), options.address()) {
-        (Some(file), _) => watch_capture(rt, file, &options, form, files, out, err),
-        (None, Some(address)) => watch_bus(rt, address, &options, form, files, out, err),
+        (Some(file), _) => watch_capture(rt, file, &options, look, files, out, err),
+        (None, Some(address)) => watch_bus(rt, address, &options, look, files, out, err),
         (None, None) => Err(Fault::Tool(command_line::Fault::Usage)),
     }
 }
@@ -102,7 +104,7 @@ fn watch_bus<R, F: Files, O: Writer, E: Writer>(
     rt: &R,
     address: &str,
     options: &Options<'_>,
-    form: Form,
+    look: Look,
     files: &mut F,
     out: &mut Output<O>,
     err: &mut Output<E>,
@@ -118,10 +120,10 @@ where
         plan.counted = connection_rules(rt.alloc(), &mut client, name, is_monitor, err)?;
     }
     let owners = ask(rt.alloc(), &mut client, options, &plan)?;
-    let sink = open_sink(rt, options, form, &mut plan, out)?;
+    let sink = open_sink(rt, options, look, &mut plan, out)?;
     let count = options.number_of(Key::Count);
     let why = options.has(Key::Why);
-    let mut selection = Selection::new(sink, err, &plan.filter, owners, count, why);
+    let mut selection = Selection::new(sink, err, &plan.criteria, owners, count, why);
     selection.begin()?;
     let shown = show_messages(
         rt,
@@ -139,7 +141,7 @@ fn watch_capture<R, F: Files, O: Writer, E: Writer>(
     rt: &R,
     file: &str,
     options: &Options<'_>,
-    form: Form,
+    look: Look,
     files: &mut F,
     out: &mut Output<O>,
     err: &mut Output<E>,
@@ -149,11 +151,11 @@ where
 {
     let alloc = rt.alloc();
     let mut plan = Plan::read(alloc, options, files)?;
-    let sink = open_sink(rt, options, form, &mut plan, out)?;
+    let sink = open_sink(rt, options, look, &mut plan, out)?;
     let count = options.number_of(Key::Count);
     let why = options.has(Key::Why);
     let owners = Owners::new(alloc);
-    let mut selection = Selection::new(sink, err, &plan.filter, owners, count, why);
+    let mut selection = Selection::new(sink, err, &plan.criteria, owners, count, why);
     selection.begin()?;
     let shown = if file == "-" {
         show_capture(alloc, &mut rt.reader(), &mut selection)
@@ -170,13 +172,14 @@ where
 fn open_sink<'o, R, O: Writer>(
     rt: &R,
     options: &Options<'_>,
-    form: Form,
+    look: Look,
     plan: &mut Plan<'_>,
     out: &'o mut Output<O>,
 ) -> Result<Sink<'o, O, Stream<R::File>>, Fault>
 where
     R: AllocGlobal + FileSystem,
 {
+    let Look { form, screen } = look;
     if options.has(Key::Rules) || options.has(Key::Of) {
         let rules = std::mem::replace(&mut plan.counted, Vec::new(rt.alloc()));
         return Ok(Sink::Counts(out, Counts { rules, untaken: 0 }));
@@ -189,8 +192,12 @@ where
         let calls = Calls::new(rt.alloc(), form, patience, slow)?;
         return Ok(Sink::Calls(out, calls));
     }
-    if options.has(Key::Summary) {
-        return Ok(Sink::Senders(out, Senders::new(rt.alloc())));
+    if options.is_summary() {
+        let senders = Senders::new(rt.alloc());
+        return Ok(match screen {
+            Some(screen) => Sink::Top(out, Top::new(senders, screen)),
+            None => Sink::Senders(out, senders),
+        });
     }
     match options.text_of(Key::Write) {
         None => Ok(Sink::Lines(out, form)),
@@ -199,6 +206,30 @@ where
             let file = fs::create(rt, file).map_err(|_| unreadable())?;
             Ok(Sink::PcapFile(Output::new(Stream::new(file))))
         }
+    }
+}
+
+/// How messages are shown.
+#[derive(Drop)]
+struct Look {
+    form: Form,
+    /// Where a table is drawn as it changes, if one is.
+    screen: Option<Screen>,
+}
+
+/// How messages are shown.
+fn look_of<R: Env + AllocGlobal + FileSystem>(
+    rt: &R,
+    device: Device,
+    options: &Options<'_>,
+) -> Look {
+    Look {
+        form: form_of(rt, device, options),
+        screen: if options.has(Key::Top) {
+            Screen::of(rt, device)
+        } else {
+            None
+        },
     }
 }
 

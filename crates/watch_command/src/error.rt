@@ -1,5 +1,6 @@
 // What `watch` is refused for.
 
+use crate::expression::{ExpressionError, FilterFault};
 use bus_client::{AddressError, ClientError, Refusal};
 use captures::CaptureError;
 use command_line::{Output, Writer};
@@ -24,6 +25,8 @@ pub enum Fault {
     Tool(command_line::Fault),
     /// The file is no capture of D-Bus messages.
     Capture(CaptureError),
+    /// The filter expression is none, or can't be run.
+    Filter(FilterFault),
     /// No bus is at the address, it has gone, or it doesn't answer.
     Socket,
     /// The bus lets nobody in who doesn't say who it is.
@@ -54,6 +57,7 @@ impl Fault {
             Fault::Tool(fault) => fault.status(),
             Fault::Socket | Fault::Auth => 4,
             Fault::Capture(_)
+            | Fault::Filter(_)
             | Fault::Refused(_)
             | Fault::NoPrograms(_)
             | Fault::NoMonitor(_)
@@ -101,6 +105,7 @@ impl Fault {
         match self {
             Fault::Tool(fault) => err.put_fault(*fault),
             Fault::Capture(fault) => put_capture(alloc, *fault, err),
+            Fault::Filter(fault) => put_filter(alloc, fault, err),
             Fault::Socket => err.put(b"dbusfan: socket\n"),
             Fault::Auth => err.put(b"dbusfan: auth\n"),
             Fault::Refused(error) => put_refusal(alloc, error, err),
@@ -190,6 +195,23 @@ fn put_capture<E: Writer>(alloc: Global, fault: CaptureError, err: &mut Output<E
     match format!(in alloc; "dbusfan: capture {fault}\n") {
         Ok(line) => err.put(line.as_bytes()),
         Err(_) => err.put_fault(command_line::Fault::Memory),
+    }
+}
+
+/// Writes the line of a filter expression's fault.
+fn put_filter<E: Writer>(alloc: Global, fault: &FilterFault, err: &mut Output<E>) {
+    match format!(in alloc; "dbusfan: filter {fault}\n") {
+        Ok(line) => err.put(line.as_bytes()),
+        Err(_) => err.put_fault(command_line::Fault::Memory),
+    }
+}
+
+impl From<ExpressionError> for Fault {
+    fn from(error: ExpressionError) -> Fault {
+        match error {
+            ExpressionError::Filter(fault) => Fault::Filter(fault),
+            ExpressionError::NoMemory => Fault::Tool(command_line::Fault::Memory),
+        }
     }
 }
 

@@ -1,10 +1,7 @@
 // What the words of the command ask for.
 
-ghost use Rattle.std.specs.Prelude.{◌≡◌, ◌++◌, ◌∷◌, [], IfOk, OnOk, length, option_map, slice_get};
-ghost use Rattle.watch_command.specs.Sayings.{saying_of, sayings_of, texts};
-ghost use Rattle.watch_command.specs.Options.{word_of, names};
-
 use crate::option_values::{edition_of, number};
+use crate::sayings::{first_name, name_count, names_of, word_of};
 use crate::words::{Key, Word, has, read_words};
 use std::alloc::{AllocError, Global};
 use std::marker::Model;
@@ -31,7 +28,7 @@ impl<'a> Options<'a> {
     ghost use Rattle.std.specs.Str.Parse.{digits_value};
     ghost use Rattle.watch_command.specs.declared.words.Key.TheVariants.{Read};
     ghost use Rattle.watch_command.specs.Sayings.{Saying, sayings_in, texts};
-    ghost use Rattle.watch_command.specs.Options.{has, is_said, word_of, names, excludes, needs, fits_source, fits_form, fits_calls, fits_why, is_monitor, wants_all, excludes_forms, address_count, has_names, fits, has_value, edition_of};
+    ghost use Rattle.watch_command.specs.Options.{has, is_said, word_of, names, excludes, needs, needs_any, fits_source, fits_form, fits_calls, fits_why, is_monitor, is_summary, wants_all, excludes_forms, excludes_lines, address_count, has_names, fits, has_value, edition_of};
 
     /// What some words ask for, if they are a row of the command line: `ADDRESS [RULE ..]` or `--read FILE [RULE ..]`, and
     /// options that go together.
@@ -75,7 +72,14 @@ impl<'a> Options<'a> {
 
     /// Whether all names and their owners are asked for.
     pub(crate) fn wants_names(&self) -> bool {
-        self.has(Key::Names) || self.has(Key::Summary)
+        self.has(Key::Names) || self.is_summary()
+    }
+
+    /// Whether a table of who sent what is asked for.
+    pub(crate) fn is_summary(&self) -> bool
+        ensures { result ≡ is_summary self.now }
+    {
+        self.has(Key::Summary) || self.has(Key::Top)
     }
 
     /// The number of an option, if it is there and says one above 0.
@@ -139,12 +143,16 @@ impl<'a> Options<'a> {
             && self.has_names()
     }
 
-    /// Whether the options go with a program that the bus runs, and with a capture.
+    /// Whether the options go with a filter expression, with a program that the bus runs, and with a capture.
     fn fits_source(&self) -> bool
         ensures { result ≡ fits_source self.now }
     {
         self.needs(Key::Edition, Key::Program)
-            && self.needs(Key::Attach, Key::Program)
+            && self.needs_any(Key::Attach, &[Key::Program, Key::Filter])
+            && self.excludes(
+                Key::Filter,
+                &[Key::Program, Key::Edition, Key::Rules, Key::Of],
+            )
             && self.excludes(
                 Key::Attach,
                 &[
@@ -158,7 +166,7 @@ impl<'a> Options<'a> {
             )
             && self.excludes(
                 Key::Read,
-                &[Key::Monitor, Key::Seconds, Key::Names, Key::Of],
+                &[Key::Monitor, Key::Seconds, Key::Names, Key::Of, Key::Top],
             )
             && self.excludes(Key::Of, &[Key::Rules])
     }
@@ -169,21 +177,8 @@ impl<'a> Options<'a> {
     {
         self.excludes_forms(Key::Rules)
             && self.excludes_forms(Key::Of)
-            && self.excludes(
-                Key::Summary,
-                &[
-                    Key::Rules,
-                    Key::Of,
-                    Key::Calls,
-                    Key::Hex,
-                    Key::Json,
-                    Key::Write,
-                    Key::Time,
-                    Key::Clock,
-                    Key::Names,
-                    Key::Full,
-                ],
-            )
+            && self.excludes_lines(Key::Summary)
+            && self.excludes_lines(Key::Top)
             && self.excludes(
                 Key::Hex,
                 &[
@@ -221,9 +216,11 @@ impl<'a> Options<'a> {
     {
         let others = [
             Key::Program,
+            Key::Filter,
             Key::Invert,
             Key::Calls,
             Key::Summary,
+            Key::Top,
             Key::Rules,
             Key::Of,
             Key::Hex,
@@ -255,11 +252,40 @@ impl<'a> Options<'a> {
         )
     }
 
+    /// Whether no option says which messages are counted, or how they are written, where a table of who sent what is asked
+    /// for.
+    fn excludes_lines(&self, key: Key) -> bool
+        ensures { result ≡ excludes_lines key self.now }
+    {
+        self.excludes(
+            key,
+            &[
+                Key::Rules,
+                Key::Of,
+                Key::Calls,
+                Key::Hex,
+                Key::Json,
+                Key::Write,
+                Key::Time,
+                Key::Clock,
+                Key::Names,
+                Key::Full,
+            ],
+        )
+    }
+
     /// Whether another option is there where an option is.
     fn needs(&self, key: Key, other: Key) -> bool
         ensures { result ≡ needs key other self.now }
     {
         !self.has(key) || self.has(other)
+    }
+
+    /// Whether one of some others is there where an option is.
+    fn needs_any(&self, key: Key, others: &[Key]) -> bool
+        ensures { result ≡ needs_any key others.now self.now }
+    {
+        !self.has(key) || self.has_any(others)
     }
 
     /// Whether no other option is there where an option is.
@@ -316,7 +342,11 @@ impl<'a> Options<'a> {
     fn wants_all(&self) -> bool
         ensures { result ≡ wants_all self.now }
     {
-        self.has(Key::Read) || self.has(Key::Program) || self.has(Key::Summary) || self.is_monitor()
+        self.has(Key::Read)
+            || self.has(Key::Program)
+            || self.has(Key::Filter)
+            || self.is_summary()
+            || self.is_monitor()
     }
 
     /// Whether there are as many words that are no options as there may be: an address where there is no capture, and a
@@ -334,62 +364,4 @@ impl<'a> Options<'a> {
             count > others
         }
     }
-}
-
-/// The word of an option among some words.
-fn word_of<'a>(words: &[Word<'a>], key: Key) -> Option<&'a str>
-    ensures { option_map (λ text. text.now) result ≡ word_of key (sayings_of words.now) }
-{
-    for word in words {
-        if let Some(text) = word.text_of(key) {
-            return Some(text);
-        }
-    }
-    None
-}
-
-/// The first of the words that are no options.
-fn first_name<'a>(words: &[Word<'a>]) -> Option<&'a str>
-    ensures { option_map (λ text. text.now) result ≡ slice_get (names (sayings_of words.now)) 0 }
-{
-    for word in words {
-        if let Some(name) = word.name() {
-            return Some(name);
-        }
-    }
-    None
-}
-
-/// The words that are no options.
-fn names_of<'a>(alloc: Global, words: &[Word<'a>]) -> Result<Vec<&'a str>, AllocError>
-    ensures { IfOk result (λ found. texts found.items ≡ names (sayings_of words.now)) }
-{
-    let mut found = Vec::new(alloc);
-    for word in words {
-        put_name(&mut found, word)?;
-    }
-    Ok(found)
-}
-
-/// Adds a word if it is no option.
-fn put_name<'a>(found: &mut Vec<&'a str>, word: &Word<'a>) -> Result<(), AllocError>
-    ensures { OnOk result (texts found.new.items ≡ texts found.old.items ++ names (saying_of word.now ∷ [])) }
-{
-    if let Some(name) = word.name() {
-        found.push(name)?;
-    }
-    Ok(())
-}
-
-/// How many words are no options.
-fn name_count(words: &[Word<'_>]) -> usize
-    ensures { result ≡ length (names (sayings_of words.now)) }
-{
-    let mut count = 0;
-    for word in words {
-        if word.name().is_some() {
-            count += 1;
-        }
-    }
-    count
 }

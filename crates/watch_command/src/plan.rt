@@ -3,10 +3,13 @@
 ghost use Rattle.std.specs.Prelude.{◌≡◌, ◌≢◌, IfOk, IfErr, true, if◌then◌else◌};
 ghost use Rattle.match_rule.specs.RuleTree.{RuleTree};
 ghost use Rattle.match_rule.specs.Grammar.{ReadsAs};
+ghost use Rattle.watch_command.specs.Options.{word_of};
+ghost use Rattle.watch_command.specs.Showing.{expression_of};
 
 use crate::counts::CountedRule;
+use crate::criteria::{Acceptor, Criteria, Program};
 use crate::error::Fault;
-use crate::filter::{Filter, Program};
+use crate::expression::Expression;
 use crate::options::Options;
 use crate::words::Key;
 use bpf_code::{Ins, encode};
@@ -23,25 +26,41 @@ const CALLS: &str = "type='method_call'";
 /// The rules of all answers.
 const ANSWERS: [&str; 2] = ["type='method_return'", "type='error'"];
 
+/// What the bus is to run.
+#[derive(Drop)]
+pub(crate) enum Attached<'a> {
+    /// The byte form of a program, for images of the edition, or of the first where none is said.
+    Program(Option<Edition>, Vec<u8>),
+    /// The text of a filter expression.
+    Filter(&'a str),
+}
+
 /// What the options come to.
 #[derive(Drop)]
 pub(crate) struct Plan<'a> {
-    pub(crate) filter: Filter,
+    pub(crate) criteria: Criteria,
     /// The rules of `--rules`, or of `--of`.
     pub(crate) counted: Vec<CountedRule>,
     /// The rules that the bus is asked for; none is all messages.
     pub(crate) asked: Vec<&'a str>,
-    /// The byte form of the program that the bus is to run.
-    pub(crate) attached: Option<Vec<u8>>,
+    pub(crate) attached: Option<Attached<'a>>,
 }
 
 impl<'a> Plan<'a> {
+    ghost use Rattle.std.specs.Prelude.{◌≡◌, None, IfOk, if◌then◌else◌};
+    ghost use Rattle.watch_command.specs.declared.words.Key.TheVariants.{Attach, Filter};
+    ghost use Rattle.watch_command.specs.Options.{has, word_of};
+    ghost use Rattle.watch_command.specs.Showing.{expression_of};
+
     /// Reads what the options name.
     pub(crate) fn read<F: Files>(
         alloc: Global,
         options: &Options<'a>,
         files: &mut F,
-    ) -> Result<Plan<'a>, Fault> {
+    ) -> Result<Plan<'a>, Fault>
+        // The filter expression that is said is the one that messages have to pass, unless the bus runs it.
+        ensures { IfOk result (λ plan. expression_of plan.criteria.acceptor ≡ (if has Attach options.now then None else word_of Filter options.now)) }
+    {
         let is_monitor = options.is_monitor();
         let is_inverted = options.has(Key::Invert) || options.has(Key::Why);
         let mut rules = Vec::new(alloc);
@@ -59,22 +78,15 @@ impl<'a> Plan<'a> {
             Some(file) => read_rules(alloc, file, is_monitor, files)?,
             None => Vec::new(alloc),
         };
-        let mut program = None;
-        let mut attached = None;
-        if let Some(file) = options.text_of(Key::Program) {
-            let instructions = read_program(alloc, file, files)?;
-            if options.has(Key::Attach) {
-                let code = encode(alloc, &instructions).map_err(command_line::Fault::from)?;
-                attached = Some(code);
-            } else {
-                let edition = options.edition().unwrap_or(Edition::One);
-                program = Some(verify_program(instructions, edition)?);
-            }
-        }
+        let (acceptor, attached) = if options.has(Key::Attach) {
+            (None, read_attached(alloc, options, files)?)
+        } else {
+            (read_acceptor(alloc, options, files)?, None)
+        };
         Ok(Plan {
-            filter: Filter {
+            criteria: Criteria {
                 rules,
-                program,
+                acceptor,
                 is_inverted,
             },
             counted,
@@ -86,7 +98,7 @@ impl<'a> Plan<'a> {
     /// The well-known names that rules ask for as senders.
     pub(crate) fn sender_names(&self, alloc: Global) -> Result<Vec<&str>, Fault> {
         let mut names = Vec::new(alloc);
-        for rule in &self.filter.rules {
+        for rule in &self.criteria.rules {
             if let Some(name) = rule.sender_name() {
                 names.push(name)?;
             }
@@ -154,6 +166,46 @@ fn read_rules<F: Files>(
         }
     }
     Ok(rules)
+}
+
+/// What accepts messages here besides rules, if anything is said.
+fn read_acceptor<F: Files>(
+    alloc: Global,
+    options: &Options<'_>,
+    files: &mut F,
+) -> Result<Option<Acceptor>, Fault>
+    ensures { IfOk result (λ acceptor. expression_of acceptor ≡ word_of Key.Filter options.now) }
+{
+    if let Some(text) = options.text_of(Key::Filter) {
+        let expression = Expression::read(alloc, text)?;
+        return Ok(Some(Acceptor::Expression(expression)));
+    }
+    let Some(file) = options.text_of(Key::Program) else {
+        return Ok(None);
+    };
+    let instructions = read_program(alloc, file, files)?;
+    let edition = options.edition().unwrap_or(Edition::One);
+    let program = verify_program(instructions, edition)?;
+    Ok(Some(Acceptor::Program(program)))
+}
+
+/// What the bus is to run. Whether it accepts a program is its own answer; a filter expression is read and compiled here
+/// too, so that its fault is said as it is without a bus.
+fn read_attached<'a, F: Files>(
+    alloc: Global,
+    options: &Options<'a>,
+    files: &mut F,
+) -> Result<Option<Attached<'a>>, Fault> {
+    if let Some(text) = options.text_of(Key::Filter) {
+        Expression::read(alloc, text)?;
+        return Ok(Some(Attached::Filter(text)));
+    }
+    let Some(file) = options.text_of(Key::Program) else {
+        return Ok(None);
+    };
+    let instructions = read_program(alloc, file, files)?;
+    let code = encode(alloc, &instructions).map_err(command_line::Fault::from)?;
+    Ok(Some(Attached::Program(options.edition(), code)))
 }
 
 /// The instructions of the program in a file.

@@ -1,6 +1,7 @@
 // What is said to people of rules, programs and files that fail, or of a bus that can't be reached.
 
 use crate::error::Fault;
+use crate::expression::FilterFault;
 use crate::options::Options;
 use crate::words::Key;
 use captures::CaptureError;
@@ -34,6 +35,7 @@ fn reason_of<F: Files>(
         Fault::Socket => of_address(alloc, &options, "no bus answers there, or it has gone away"),
         Fault::Auth => of_address(alloc, &options, "this bus doesn't let this user in"),
         Fault::Capture(fault) => of_capture(alloc, &options, *fault),
+        Fault::Filter(fault) => of_filter(alloc, &options, fault, files),
         Fault::Tool(command_line::Fault::File) => of_files(alloc, &options, files),
         Fault::Tool(command_line::Fault::Rule(_)) => of_rules(alloc, &options, files),
         Fault::Tool(command_line::Fault::Code(_) | command_line::Fault::Program(_)) => {
@@ -114,6 +116,22 @@ fn of_rules_file<F: Files>(
         }
     }
     Ok(None)
+}
+
+// Of the filter expression, as `compile` says it where it is none.
+fn of_filter<F: Files>(
+    alloc: Global,
+    options: &Options<'_>,
+    fault: &FilterFault,
+    files: &mut F,
+) -> Result<Option<String>, AllocError> {
+    match (options.text_of(Key::Filter), fault) {
+        (_, FilterFault::SenderName(name)) => Ok(Some(format!(in alloc;
+            "filter: who owns {name} isn't known here; a rule can ask for it as its sender"
+        )?)),
+        (Some(text), _) => reason_for(alloc, &["compile", "--filter", text], files),
+        (None, _) => Ok(None),
+    }
 }
 
 // Of the program's file, as `check` says it.

@@ -1,7 +1,7 @@
 // The messages that are shown.
 
+use crate::criteria::Criteria;
 use crate::error::Fault;
-use crate::filter::Filter;
 use crate::form::Seen;
 use crate::owners::{Change, Owners};
 use crate::sink::Sink;
@@ -15,7 +15,7 @@ use std::alloc::Global;
 pub(crate) struct Selection<'o, 'e, 'f, O, F, E> {
     sink: Sink<'o, O, F>,
     err: &'e mut Output<E>,
-    filter: &'f Filter,
+    criteria: &'f Criteria,
     owners: Owners,
     /// Whether it is said why the rule doesn't hold of a message.
     tells_why: bool,
@@ -32,7 +32,7 @@ impl<'o, 'e, 'f, O, F: Drop, E> Drop for Selection<'o, 'e, 'f, O, F, E> {
         let Selection {
             sink: _,
             err: _,
-            filter: _,
+            criteria: _,
             owners: _,
             tells_why: _,
             left: _,
@@ -47,7 +47,7 @@ impl<'o, 'e, 'f, O: Writer, F: Writer, E: Writer> Selection<'o, 'e, 'f, O, F, E>
     pub(crate) fn new(
         sink: Sink<'o, O, F>,
         err: &'e mut Output<E>,
-        filter: &'f Filter,
+        criteria: &'f Criteria,
         owners: Owners,
         count: Option<u64>,
         tells_why: bool,
@@ -55,7 +55,7 @@ impl<'o, 'e, 'f, O: Writer, F: Writer, E: Writer> Selection<'o, 'e, 'f, O, F, E>
         Selection {
             sink,
             err,
-            filter,
+            criteria,
             owners,
             tells_why,
             left: count.unwrap_or(u64::MAX),
@@ -80,7 +80,7 @@ impl<'o, 'e, 'f, O: Writer, F: Writer, E: Writer> Selection<'o, 'e, 'f, O, F, E>
         self.left == 0
     }
 
-    /// Shows the message of a packet if the filter takes it. A packet that was cut, or whose bytes are no message, is
+    /// Shows the message of a packet if the criteria take it. A packet that was cut, or whose bytes are no message, is
     /// said and passed over.
     pub(crate) fn take_packet(
         &mut self,
@@ -98,7 +98,7 @@ impl<'o, 'e, 'f, O: Writer, F: Writer, E: Writer> Selection<'o, 'e, 'f, O, F, E>
         }
     }
 
-    /// Shows a message of a bus if the filter takes it. A change of owners is known from the message on that tells of it.
+    /// Shows a message of a bus if the criteria take it. A change of owners is known from the message on that tells of it.
     pub(crate) fn take_message(
         &mut self,
         alloc: Global,
@@ -126,12 +126,12 @@ impl<'o, 'e, 'f, O: Writer, F: Writer, E: Writer> Selection<'o, 'e, 'f, O, F, E>
     fn show(&mut self, alloc: Global, time: u64, view: &View<'_>) -> Result<(), Fault> {
         self.tell_late(alloc, time)?;
         let owners = &self.owners;
-        if !self.sink.takes_any(view) && !self.filter.takes(view, owners) {
+        if !self.sink.takes_any(view) && !self.criteria.takes(view, owners) {
             return Ok(());
         }
         let shown = self.sink.take(alloc, &Seen { view, time, owners })?;
         if self.tells_why {
-            let reasons = self.filter.reasons(alloc, view, owners)?;
+            let reasons = self.criteria.reasons(alloc, view, owners)?;
             self.sink.put_reasons(alloc, reasons.as_str())?;
         }
         self.left = self.left.saturating_sub(shown);

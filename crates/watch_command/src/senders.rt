@@ -40,13 +40,24 @@ impl Senders {
         Ok(())
     }
 
+    /// The table of those who sent the most messages, at most as many as are said.
+    pub(crate) fn busiest(&mut self, alloc: Global, most: usize) -> Result<String, AllocError> {
+        let time = self.time();
+        self.table.busiest(alloc, time, most)
+    }
+
+    /// The time between the first and the last of the times that were taken.
+    fn time(&self) -> u64 {
+        self.last.saturating_sub(self.first)
+    }
+
     /// Writes the table.
     pub(crate) fn end<O: Writer>(
         &mut self,
         alloc: Global,
         out: &mut Output<O>,
     ) -> Result<(), Fault> {
-        let time = self.last.saturating_sub(self.first);
+        let time = self.time();
         out.put(self.table.report(alloc, time)?.as_bytes());
         if out.has_failed {
             return Err(Fault::Tool(command_line::Fault::File));

@@ -5,6 +5,7 @@ use crate::counts::Counts;
 use crate::error::Fault;
 use crate::form::{Form, Seen};
 use crate::senders::Senders;
+use crate::top::Top;
 use captures::{MAX_TIME, TimeUnit, pcap_header, record_header};
 use command_line::{Output, Writer};
 use message_view::{Kind, View};
@@ -24,6 +25,8 @@ pub(crate) enum Sink<'o, O, F> {
     Calls(&'o mut Output<O>, Calls),
     /// Who sends what, and how much.
     Senders(&'o mut Output<O>, Senders),
+    /// The same on a terminal, as it changes.
+    Top(&'o mut Output<O>, Top),
 }
 
 impl<'o, O, F: Drop> Drop for Sink<'o, O, F> {
@@ -35,6 +38,7 @@ impl<'o, O, F: Drop> Drop for Sink<'o, O, F> {
             Sink::Counts(_, _) => {}
             Sink::Calls(_, _) => {}
             Sink::Senders(_, _) => {}
+            Sink::Top(_, _) => {}
         }
     }
 }
@@ -56,7 +60,7 @@ impl<'o, O: Writer, F: Writer> Sink<'o, O, F> {
 
     /// Whether it has something to say when time goes by and no message comes.
     pub(crate) fn is_waiting(&self) -> bool {
-        matches!(self, Sink::Calls(_, _))
+        matches!(self, Sink::Calls(_, _) | Sink::Top(_, _))
     }
 
     /// Says what is to be said at a time, in nanoseconds since 1970, and answers how many lines were shown.
@@ -65,6 +69,10 @@ impl<'o, O: Writer, F: Writer> Sink<'o, O, F> {
             Sink::Calls(out, calls) => calls.tell_late(alloc, out, now),
             Sink::Senders(_, senders) => {
                 senders.reach(now);
+                Ok(0)
+            }
+            Sink::Top(out, top) => {
+                top.reach(alloc, out, now)?;
                 Ok(0)
             }
             _ => Ok(0),
@@ -83,6 +91,7 @@ impl<'o, O: Writer, F: Writer> Sink<'o, O, F> {
             Sink::Counts(_, counts) => counts.take(seen.view, seen.owners),
             Sink::Calls(out, calls) => return calls.take(alloc, out, seen),
             Sink::Senders(_, senders) => senders.take(alloc, seen)?,
+            Sink::Top(_, top) => top.take(alloc, seen)?,
         }
         Ok(1)
     }
@@ -113,6 +122,7 @@ impl<'o, O: Writer, F: Writer> Sink<'o, O, F> {
             }
             Sink::Calls(out, calls) => calls.end(alloc, out, err),
             Sink::Senders(out, senders) => senders.end(alloc, out),
+            Sink::Top(out, top) => top.draw(alloc, out),
         }
     }
 }

@@ -123,12 +123,25 @@ const COLUMNS: usize = 80;
 
 /// The columns of the terminal: those of the variable COLUMNS, if it is a number of two digits or more.
 pub(crate) fn columns<R: Env + AllocGlobal>(rt: &R) -> usize {
-    match variable(rt, "COLUMNS") {
+    number_by(rt, "COLUMNS", 10).unwrap_or(COLUMNS)
+}
+
+/// The number of a variable, if it is one that isn't below the least.
+pub(crate) fn number_by<R: Env + AllocGlobal>(rt: &R, name: &str, least: usize) -> Option<usize> {
+    match variable(rt, name) {
         Ok(Some(text)) => match text.as_str().parse::<usize>() {
-            Ok(columns) if columns >= 10 => columns,
-            _ => COLUMNS,
+            Ok(number) if number >= least => Some(number),
+            _ => None,
         },
-        _ => COLUMNS,
+        _ => None,
+    }
+}
+
+/// Whether text can be drawn anew on standard output: it is a terminal that isn't `dumb`.
+pub(crate) fn can_redraw<R: Env + AllocGlobal>(rt: &R, device: Device) -> bool {
+    match (device, variable(rt, "TERM")) {
+        (Device::Terminal, Ok(term)) => !is_dumb(text_of(&term)),
+        _ => false,
     }
 }
 

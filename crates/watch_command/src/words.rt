@@ -19,6 +19,8 @@ pub enum Key {
     Count,
     /// `--edition 1|2`: the edition of images that the program is for.
     Edition,
+    /// `--filter EXPR`: the messages that a filter expression holds of.
+    Filter,
     /// `--full`: arguments whole, where they would be cut.
     Full,
     /// `--hex`: messages as hexadecimal digits.
@@ -49,6 +51,8 @@ pub enum Key {
     Summary,
     /// `--time`: when a message came, in front of its line.
     Time,
+    /// `--top`: the table of `--summary`, as it changes.
+    Top,
     /// `--why`: why the one rule doesn't hold of the messages that it doesn't take.
     Why,
     /// `--write FILE`: a capture in place of lines.
@@ -85,12 +89,13 @@ struct Step<'a> {
 }
 
 /// The words of the options.
-const OPTIONS: [(&[u8], Key); 22] = [
+const OPTIONS: [(&[u8], Key); 24] = [
     (b"--attach", Key::Attach),
     (b"--calls", Key::Calls),
     (b"--clock", Key::Clock),
     (b"--count", Key::Count),
     (b"--edition", Key::Edition),
+    (b"--filter", Key::Filter),
     (b"--full", Key::Full),
     (b"--hex", Key::Hex),
     (b"--invert", Key::Invert),
@@ -106,6 +111,7 @@ const OPTIONS: [(&[u8], Key); 22] = [
     (b"--slow", Key::Slow),
     (b"--summary", Key::Summary),
     (b"--time", Key::Time),
+    (b"--top", Key::Top),
     (b"--why", Key::Why),
     (b"--write", Key::Write),
 ];
@@ -128,23 +134,25 @@ impl Key {
             Key::Clock => 3,
             Key::Count => 4,
             Key::Edition => 5,
-            Key::Full => 6,
-            Key::Hex => 7,
-            Key::Invert => 8,
-            Key::Json => 9,
-            Key::Monitor => 10,
-            Key::Names => 11,
-            Key::Of => 12,
-            Key::Patience => 13,
-            Key::Program => 14,
-            Key::Read => 15,
-            Key::Rules => 16,
-            Key::Seconds => 17,
-            Key::Slow => 18,
-            Key::Summary => 19,
-            Key::Time => 20,
-            Key::Why => 21,
-            Key::Write => 22,
+            Key::Filter => 6,
+            Key::Full => 7,
+            Key::Hex => 8,
+            Key::Invert => 9,
+            Key::Json => 10,
+            Key::Monitor => 11,
+            Key::Names => 12,
+            Key::Of => 13,
+            Key::Patience => 14,
+            Key::Program => 15,
+            Key::Read => 16,
+            Key::Rules => 17,
+            Key::Seconds => 18,
+            Key::Slow => 19,
+            Key::Summary => 20,
+            Key::Time => 21,
+            Key::Top => 22,
+            Key::Why => 23,
+            Key::Write => 24,
         }
     }
 
@@ -162,6 +170,7 @@ impl Key {
         match self {
             Key::Count
             | Key::Edition
+            | Key::Filter
             | Key::Of
             | Key::Patience
             | Key::Program
@@ -181,6 +190,7 @@ impl Key {
             | Key::Names
             | Key::Summary
             | Key::Time
+            | Key::Top
             | Key::Why => false,
         }
     }

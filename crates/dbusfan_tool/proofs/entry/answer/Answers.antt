@@ -1,5 +1,5 @@
 use Rattle.std.proofs.Common.{[], inl, inr, refl}
-use Rattle.command_line.specs.CommandRow.{to_asm, to_check, to_compile}
+use Rattle.command_line.specs.CommandRow.{to_asm, to_check, to_compile, to_compile_filter}
 use Rattle.command_line.specs.Files.{MadeReads}
 use Rattle.command_line.specs.Output.{none}
 use Rattle.dbusfan_tool.proofs.Saying.{says_of_row}
@@ -22,4 +22,13 @@ returns-in-Some-Compile-clause-row g c asked row =
       none,
       says_of_row (MadeReads g.F.Files.gives c.args.files.now c.args.files.now) (to_compile c.in-Some-Compile.rule.now) asked c.answer-in-Some-Compile.result e
           (elim c.answer-in-Some-Compile.ensures [ inl said ↦ inl (said.0, said.1, refl, said.2) | inr short ↦ inr short ]),
+    )
+
+pub returns-in-Some-CompileFilter-clause-row : goal.returns-in-Some-CompileFilter-clause-row
+returns-in-Some-CompileFilter-clause-row g c asked row =
+    let e = rw c.in-Some-CompileFilter.field-0-is at (c.in-Some-CompileFilter.ensures.only asked row) in (
+      [],
+      none,
+      says_of_row (MadeReads g.F.Files.gives c.args.files.now c.args.files.now) (to_compile_filter c.in-Some-CompileFilter.filter.now) asked c.compile_answer.result e
+          (elim c.compile_answer.ensures [ inl said ↦ inl (said.0, said.1, refl, said.2) | inr short ↦ inr short ]),
     )

@@ -3,7 +3,7 @@ use Rattle.command_line.specs.CommandRow.{to_match}
 use Rattle.command_line.specs.Files.{MadeReads}
 use Rattle.command_line.specs.Output.{none}
 use Rattle.dbusfan_tool.specs.Answer.{Said, failing}
-use Rattle.dbusfan_tool.specs.Filters.{Serves}
+use Rattle.dbusfan_tool.specs.Serving.{Serves}
 use Rattle.dbusfan_tool.specs.FileJudgements.{SaysOfFile}
 use Rattle.dbusfan_tool.specs.Judges.{by_rule}
 use Rattle.dbusfan_tool.specs.Tool.{Tool, front_of, no_rule, judged}
@@ -13,7 +13,7 @@ use Rattle.dbusfan_tool.proofs.matching.answer.Goals as goal
 pub returns-in-Ok : goal.returns-in-Ok
 returns-in-Ok g c =
     let rule = c.in-Ok.ensures.found in
-    let serves = subst (λ (front : Option (List ℕ)). Serves (by_rule rule.0 c.args.owns front) c.in-Ok.filter) c.front_of.ensures rule.2 in
+    let serves = subst (λ (front : Option (List ℕ)). Serves (by_rule rule.0 c.args.owns front) c.in-Ok.program_judge) c.front_of.ensures rule.2 in
     let judge = by_rule rule.0 c.args.owns (front_of c.args.why c.args.each) in
     let said = c.answer.ensures judge serves in
     let file_says : Said → Type 0 = SaysOfFile (λ content. g.F.Files.gives c.args.files.now c.args.file.now content c.answer.new.files) judge c.args.each in

@@ -14,7 +14,7 @@ pub returns-in-Ok : goal.returns-in-Ok
 returns-in-Ok g c =
     let program = c.in-Ok.ensures.found in
     let judge = by_program c.in-Ok.program c.args.edition in
-    let said = c.answer.ensures judge c.of_program-filter.ensures in
+    let said = c.answer.ensures judge c.of_program-program_judge.ensures in
     let file_says : Said → Type 0 = SaysOfFile (λ next. g.F.Files.gives c.verified_file.new.files c.args.file.now next c.answer.new.files) judge c.args.each in
     let row_says : Said → Type 0 = Tool (MadeReads g.F.Files.gives c.args.files.now c.answer.new.files) (to_run c.args.program.now c.args.file.now c.args.edition c.args.each) in (
       said.0,

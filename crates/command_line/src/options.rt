@@ -1,0 +1,39 @@
+// The options among the words after a command.
+
+use summary::Edition;
+
+/// The options that were given.
+#[derive(Clone, Copy)]
+pub(crate) struct Options<'a> {
+    pub(crate) owns: bool,
+    pub(crate) each: bool,
+    pub(crate) why: bool,
+    pub(crate) edition: Option<Edition>,
+    pub(crate) filter: Option<&'a str>,
+}
+
+impl<'a> Options<'a> {
+    ghost use Rattle.std.specs.Prelude.{◌≡◌};
+    ghost use Rattle.command_line.specs.CommandRow.{no_options};
+    ghost use Rattle.command_line.specs.RowReading.{are_plain};
+    ghost use Rattle.command_line.specs.Views.{options_of};
+
+    pub(crate) fn none() -> Options<'a>
+        ensures { options_of result ≡ no_options }
+    {
+        Options {
+            owns: false,
+            each: false,
+            why: false,
+            edition: None,
+            filter: None,
+        }
+    }
+
+    /// Is none given, but for a filter?
+    pub(crate) fn are_plain(self) -> bool
+        ensures { result ≡ are_plain (options_of self.entry) }
+    {
+        !self.owns && !self.each && !self.why && self.edition.is_none()
+    }
+}

@@ -1,6 +1,0 @@
-use Rattle.dbusfan_tool.proofs.Judgements.{of_outcome}
-use Rattle.dbusfan_tool.proofs.filter.Filter.judge.Goals as goal
-
-pub returns : goal.returns
-returns c judge m serves valid =
-    of_outcome judge c.args.self.now c.args.message.now m _ _ serves valid (c.new-image.ensures m valid) c.run-verdict.ensures.ends (c.in_ok-reasons.ensures m valid)

@@ -1,7 +1,0 @@
-use Rattle.std.proofs.Common.{◌≡◌, drop}
-use Rattle.watch_command.specs.Sayings.{sayings_of}
-use Rattle.watch_command.specs.Options.{names}
-use Rattle.watch_command.proofs.options.first_name.Given as goal
-
-abbrev pub invariant-loop-word : goal.invariant-loop-word
-invariant-loop-word l = names (sayings_of (drop l.word-index l.words)) ≡ names (sayings_of l.words)
