@@ -177,6 +177,12 @@ def methods_that_programs_call_first(bus):
     ]
 
 
+@row("wire", [(), "InvalidArgs"])
+def reloading_the_configuration(bus):
+    one = bus.connect()
+    return [error_of(one.call, "ReloadConfig"), error_of(one.call, "ReloadConfig", "s", ("x",))]
+
+
 @row("wire", ["AdtAuditDataUnknown", "SELinuxSecurityContextUnknown or a context", "NameHasNoOwner", "NameHasNoOwner"])
 def audit_session_and_security_context(bus):
     one = bus.connect()
@@ -342,6 +348,40 @@ def counts_of_what_was_sent(bus):
     return seen + [numbers(two.call("GetStats", interface=STATS)[0])]
 
 
+PROGRAMS = "org.example.ProgramBus1"
+
+
+def said_of(one, text):
+    """What the bus answers of a filter, or says of one that it doesn't attach."""
+    try:
+        return one.call("AttachFilter", "s", (text,), interface=PROGRAMS)
+    except DBusError as error:
+        return str(error).partition(": ")[2]
+
+
+@row("wire", [["c"], ["c", "d"], "NoAttachment", (), ["d"]], ours_alone=True)
+def filters_in_place_of_rules(bus):
+    one, two = bus.connect(), bus.connect()
+
+    def told():
+        for path, member, text in (("/a", "c", "text"), ("/org/a11y/atspi", "c", "text"), ("/a", "d", "a text")):
+            two.signal(path, "a.b", member, "s", (text,))
+        return [got for got in met(one) if got in ("c", "d")]
+
+    number = said_of(one, "signal and not path_namespace = /org/a11y and arg0 begins te")
+    seen = [told()]
+    said_of(one, "member = d")
+    seen.append(told())
+    seen.append(error_of(two.call, "Detach", "u", number, interface=PROGRAMS).rpartition(".")[2])
+    return seen + [one.call("Detach", "u", number, interface=PROGRAMS), told()]
+
+
+@row("wire", ["BadFilter: NoTest at 10", "BadFilter: SenderName com.example.A", "LimitsExceeded: weight of the filter"], ours_alone=True)
+def filters_that_are_refused(bus):
+    one = bus.connect()
+    return [said_of(one, text) for text in ("signal and", "sender = com.example.A", " or ".join(["arg0 < 1"] * 43))]
+
+
 RULES = [
     "type='signal',member='c'", "interface='a.b',path='/a/b',arg0='x',arg12='y'", "path_namespace='/a',arg2path='/b/',arg0namespace='com.example'",
     "sender='com.example.Sender',destination=':1.5',arg1='it'\\''s, so'", "type='method_call',eavesdrop='true'", "",
@@ -440,6 +480,12 @@ def calls_by_gdbus(bus):
     return [call("NameHasOwner", BUS), call("GetNameOwner", "com.example.Nobody"), call("RequestName", "com.example.Called", "uint32 0")]
 
 
+@row("gdbus", ["(uint32 1,)", "Error: GDBus.Error:org.example.ProgramBus1.Error.BadFilter: BadFilter: BadOperator at 7"], ours_alone=True)
+def attaches_by_gdbus(bus):
+    call = lambda text: run("gdbus", "call", "--address", bus.address, "--dest", BUS, "--object-path", BUS_PATH, "--method", f"{PROGRAMS}.AttachFilter", text)
+    return [call("member = Shown and arg0 begins te"), call("member < c")]
+
+
 @row("gdbus", [("text", 7, [1, 2], {"k": ("s", "v")})])
 def emits_a_signal(bus):
     one = bus.connect()
@@ -491,6 +537,11 @@ def calls_by_busctl(bus):
         busctl(bus, "call", BUS, BUS_PATH, BUS, "ListActivatableNames"),
         "RequestName" in busctl(bus, "introspect", BUS, BUS_PATH),
     ]
+
+
+@row("busctl", ["u 1", "Call failed: BadFilter: NoTest at 10"], ours_alone=True)
+def attaches_by_busctl(bus):
+    return [busctl(bus, "call", BUS, BUS_PATH, PROGRAMS, "AttachFilter", "s", text) for text in ("signal and not path_namespace = /org/a11y", "signal and")]
 
 
 @row("busctl", [("text", 7, ("s", "inner"))])

@@ -60,6 +60,7 @@ IsCallOf (calls.NameHasOwner name) method args_left = IsTextCall names.NameHasOw
 IsCallOf calls.ListNames method args_left = method ≡ names.ListNames
 IsCallOf calls.Ping method args_left = method ≡ names.Ping
 IsCallOf (calls.Attach edition program) method args_left = IsAttach method args_left edition program.items
+IsCallOf (calls.AttachFilter text) method args_left = IsTextCall names.AttachFilter method args_left text.now
 IsCallOf (calls.Detach id) method args_left = (method ≡ names.Detach) × (first_number args_left ≡ Some id)
 IsCallOf (calls.StartServiceByName name) method args_left = IsTextCall names.StartServiceByName method args_left name.now
 IsCallOf calls.ListActivatableNames method args_left = method ≡ names.ListActivatableNames

@@ -63,6 +63,7 @@ limit_of limits.BusReaders = codes "readers of the bus at one time"
 limit_of limits.BusWorkers = codes "workers of the bus"
 limit_of limits.BusBroadcasts = codes "broadcasts of the bus"
 limit_of limits.RuleLen = codes "instructions of the program of the rule"
+limit_of limits.FilterWeight = codes "weight of the filter"
 limit_of limits.MessageLen = codes "bytes of the message with its sender"
 
 -- what was wrong

@@ -4,6 +4,7 @@ pub mod CallAnswers
 pub mod CallErrors
 pub mod Calls
 pub mod ErrorNames
+pub mod FilterFaults
 pub mod Introspection
 pub mod Methods
 pub mod Properties

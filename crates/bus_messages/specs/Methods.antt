@@ -4,7 +4,7 @@ use Rattle.std.specs.Prelude.{ℕ, Bool, true, false, ◌||◌, List, [], ◌∷
 use Rattle.std.specs.List.{find}
 use Rattle.std.specs.Str.{bytes_eq}
 use Rattle.bus_messages.specs.declared.method.Method.{Method}
-use Rattle.bus_messages.specs.declared.method.Method.TheVariants.{Hello, AddMatch, RemoveMatch, RequestName, ReleaseName, GetNameOwner, NameHasOwner, ListNames, Ping, Attach, AttachEdition, Detach, StartServiceByName, ListActivatableNames, ListQueuedOwners, GetId, GetConnectionUnixUser, GetConnectionUnixProcessId, GetConnectionCredentials, GetAdtAuditSessionData, GetConnectionSelinuxSecurityContext, GetMachineId, Introspect, Get, GetAll, Set, UpdateActivationEnvironment, ReloadConfig, BecomeMonitor, GetStats, GetConnectionStats, GetAllMatchRules}
+use Rattle.bus_messages.specs.declared.method.Method.TheVariants.{Hello, AddMatch, RemoveMatch, RequestName, ReleaseName, GetNameOwner, NameHasOwner, ListNames, Ping, Attach, AttachEdition, AttachFilter, Detach, StartServiceByName, ListActivatableNames, ListQueuedOwners, GetId, GetConnectionUnixUser, GetConnectionUnixProcessId, GetConnectionCredentials, GetAdtAuditSessionData, GetConnectionSelinuxSecurityContext, GetMachineId, Introspect, Get, GetAll, Set, UpdateActivationEnvironment, ReloadConfig, BecomeMonitor, GetStats, GetConnectionStats, GetAllMatchRules}
 
 -- a method, what it is called, and the signatures of its arguments and of its answer
 pub record MethodRow : Type 0 where
@@ -52,6 +52,7 @@ methods =
     ∷ row_of Ping peer (codes "Ping") [] []
     ∷ row_of Attach programs (codes "Attach") (codes "a(qyyu)") (codes "u")
     ∷ row_of AttachEdition programs (codes "AttachEdition") (codes "ua(qyyu)") (codes "u")
+    ∷ row_of AttachFilter programs (codes "AttachFilter") (codes "s") (codes "u")
     ∷ row_of Detach programs (codes "Detach") (codes "u") []
     ∷ row_of StartServiceByName bus (codes "StartServiceByName") (codes "su") (codes "u")
     ∷ row_of ListActivatableNames bus (codes "ListActivatableNames") [] (codes "as")

@@ -11,6 +11,7 @@ use Rattle.bus_messages.specs.declared.body.Body.{Body}
 use Rattle.bus_messages.specs.declared.error_name.ErrorName.{ErrorName}
 use Rattle.bus_messages.specs.Bodies.{with_text, with_texts, with_body}
 use Rattle.bus_messages.specs.ErrorNames.{full_name, text_of}
+use Rattle.bus_messages.specs.FilterFaults.{bad_filter_name, bad_filter_text}
 
 abbrev pub bus_path : List ℕ
 bus_path = codes "/org/freedesktop/DBus"
@@ -27,10 +28,18 @@ from_bus kind serial to = record (nothing_asked kind no_reply_expected serial) {
 abbrev pub reply_asked : ℕ → Option (List ℕ) → ℕ → Body → Asked
 reply_asked serial to reply_to body = with_body (record (from_bus MethodReturn serial to) { reply_serial = Some reply_to }) body
 
--- the error that answers the message of a serial; its one argument is what the error says
+-- the error of this whole name that answers the message of a serial; its one argument is a text
+abbrev pub error_with : ℕ → Option (List ℕ) → ℕ → List ℕ → List ℕ → Asked
+error_with serial to reply_to name text =
+    with_text (record (from_bus Error serial to) { error_name = Some name; reply_serial = Some reply_to }) text
+
+-- its argument is what the error says
 abbrev pub error_asked : ℕ → Option (List ℕ) → ℕ → ErrorName → Asked
-error_asked serial to reply_to name =
-    with_text (record (from_bus Error serial to) { error_name = Some (full_name name); reply_serial = Some reply_to }) (text_of name)
+error_asked serial to reply_to name = error_with serial to reply_to (full_name name) (text_of name)
+
+-- the error that answers the message of a serial with what is said of its filter
+abbrev pub bad_filter_asked : ℕ → Option (List ℕ) → ℕ → List ℕ → Asked
+bad_filter_asked serial to reply_to fault = error_with serial to reply_to bad_filter_name (bad_filter_text fault)
 
 -- a signal of the bus, whose arguments are texts
 abbrev pub signal_asked : ℕ → Option (List ℕ) → List ℕ → List (List ℕ) → Asked

@@ -35,6 +35,8 @@ pub enum Call<'a> {
     Ping,
     /// By Attach, which is of edition 1, or by AttachEdition.
     Attach(Edition, Vec<Ins>),
+    /// The text of a filter.
+    AttachFilter(&'a str),
     Detach(u32),
     /// A name; the flags have no meaning.
     StartServiceByName(&'a str),
@@ -236,6 +238,7 @@ impl<'a> Call<'a> {
                 arguments.edition()?,
                 arguments.program(alloc)?,
             )),
+            Method::AttachFilter => Ok(Call::AttachFilter(arguments.text()?)),
             Method::Detach => Ok(Call::Detach(arguments.number()?)),
             Method::StartServiceByName => Ok(Call::StartServiceByName(arguments.text()?)),
             Method::ListActivatableNames => Ok(Call::ListActivatableNames),

@@ -8,7 +8,8 @@ use bpf_verify::VerifyError;
 use match_key::RuleError;
 use std::fmt;
 
-/// The error that the bus answers a call with, and what it says of it.
+/// The error that the bus answers a call with, and what it says of it. BadFilter isn't among these: it has a text of the call's
+/// (`FilterFault`).
 #[derive(Clone, Copy, Debug, PartialEq, Eq)]
 pub enum ErrorName {
     AccessDenied,

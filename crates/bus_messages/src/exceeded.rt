@@ -32,6 +32,8 @@ pub enum Exceeded {
     BusBroadcasts,
     /// Instructions of the program that a rule is compiled to.
     RuleLen,
+    /// What the tests of a filter weigh together.
+    FilterWeight,
     /// Bytes of a message with its sender.
     MessageLen,
 }
@@ -59,6 +61,7 @@ impl Exceeded {
             Exceeded::BusWorkers => "workers of the bus",
             Exceeded::BusBroadcasts => "broadcasts of the bus",
             Exceeded::RuleLen => "instructions of the program of the rule",
+            Exceeded::FilterWeight => "weight of the filter",
             Exceeded::MessageLen => "bytes of the message with its sender",
         }
     }

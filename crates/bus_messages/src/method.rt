@@ -20,6 +20,7 @@ pub(crate) enum Method {
     Ping,
     Attach,
     AttachEdition,
+    AttachFilter,
     Detach,
     StartServiceByName,
     ListActivatableNames,
@@ -124,7 +125,7 @@ macro_rules! rows {
 }
 
 /// Each method. A call that names no interface is of the first row with its member.
-static ROWS: [MethodEntry; 32] = rows! {
+static ROWS: [MethodEntry; 33] = rows! {
     Hello BUS "Hello" ("") -> "s";
     AddMatch BUS "AddMatch" ("s") -> "";
     RemoveMatch BUS "RemoveMatch" ("s") -> "";
@@ -136,6 +137,7 @@ static ROWS: [MethodEntry; 32] = rows! {
     Ping PEER "Ping" ("") -> "";
     Attach PROGRAMS "Attach" ("a(qyyu)") -> "u";
     AttachEdition PROGRAMS "AttachEdition" ("ua(qyyu)") -> "u";
+    AttachFilter PROGRAMS "AttachFilter" ("s") -> "u";
     Detach PROGRAMS "Detach" ("u") -> "";
     StartServiceByName BUS "StartServiceByName" ("su") -> "u";
     ListActivatableNames BUS "ListActivatableNames" ("") -> "as";

@@ -2,10 +2,12 @@
 
 ghost use Rattle.std.specs.Prelude.{◌≡◌, ◌∷◌, [], Some, None, codes, option_map};
 ghost use Rattle.message_build.specs.Asked.{Asked};
-ghost use Rattle.bus_messages.specs.Sent.{Builds, from_bus, reply_asked, error_asked, signal_asked};
+ghost use Rattle.bus_messages.specs.FilterFaults.{filter_fault_text};
+ghost use Rattle.bus_messages.specs.Sent.{Builds, from_bus, reply_asked, error_with, error_asked, bad_filter_asked, signal_asked};
 
 use crate::body::Body;
 use crate::error_name::ErrorName;
+use crate::filter_fault::FilterFault;
 use bytes::Bytes;
 use message_build::{BuildError, Builder};
 use message_view::Kind;
@@ -15,6 +17,9 @@ use std::alloc::Global;
 const BUS_NAME: &str = "org.freedesktop.DBus";
 
 const BUS_PATH: &str = "/org/freedesktop/DBus";
+
+/// The error of a filter that isn't attached.
+const BAD_FILTER: &str = "org.example.ProgramBus1.Error.BadFilter";
 
 /// The flag that no reply is expected.
 const NO_REPLY: u8 = 1;
@@ -60,6 +65,24 @@ pub fn reply(
     finish_message(alloc, &builder)
 }
 
+/// The error of a name, whose argument is a text.
+fn error_with<'a>(
+    alloc: Global,
+    serial: u32,
+    to: Option<&'a str>,
+    reply_to: u32,
+    name: &'a str,
+    text: &'a str,
+) -> Result<Bytes, BuildError>
+    ensures { Builds (error_with serial (option_map (λ name. name.now) to.entry) reply_to name.entry.now text.entry.now) result }
+{
+    let mut builder = from_bus(alloc, Kind::Error, serial, to);
+    builder.error_name(name);
+    builder.reply_serial(reply_to);
+    builder.arg_str(text)?;
+    finish_message(alloc, &builder)
+}
+
 /// The error that answers the message with a serial. Its argument is what the error says.
 ///
 /// # Errors
@@ -75,11 +98,25 @@ pub fn error(
     ensures { Builds (error_asked serial (option_map (λ name. name.now) to.entry) reply_to name) result }
 {
     let text = name.to_string(alloc)?;
-    let mut builder = from_bus(alloc, Kind::Error, serial, to);
-    builder.error_name(name.name());
-    builder.reply_serial(reply_to);
-    builder.arg_str(text.as_str())?;
-    finish_message(alloc, &builder)
+    error_with(alloc, serial, to, reply_to, name.name(), text.as_str())
+}
+
+/// The error BadFilter that answers the message with a serial. Its argument is what the error says of the filter.
+///
+/// # Errors
+///
+/// As those of `reply`.
+pub fn bad_filter(
+    alloc: Global,
+    serial: u32,
+    to: Option<&str>,
+    reply_to: u32,
+    fault: FilterFault<'_>,
+) -> Result<Bytes, BuildError>
+    ensures { Builds (bad_filter_asked serial (option_map (λ name. name.now) to.entry) reply_to (filter_fault_text fault.entry)) result }
+{
+    let text = fault.to_string(alloc)?;
+    error_with(alloc, serial, to, reply_to, BAD_FILTER, text.as_str())
 }
 
 /// A signal of the bus, without a body yet.

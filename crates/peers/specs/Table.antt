@@ -9,15 +9,16 @@ use Rattle.bus_messages.specs.declared.error_name.ErrorName.TheVariants as names
 use Rattle.bus_messages.specs.Introspection.{introspection_text}
 use Rattle.router.specs.Command.TheVariants.{Detach}
 use Rattle.router.specs.Calls.{Once, Answers}
-use Rattle.router.specs.Readings.{AddsMatch, RemovesMatch, Attaches}
+use Rattle.router.specs.Readings.{AddsMatch, RemovesMatch}
 use Rattle.peers.specs.Answers.{IsRefused}
-use Rattle.peers.specs.Holdings.{after_add, after_remove, after_attach, after_detach}
+use Rattle.peers.specs.Attachments.{AttachesProgram, AttachesFilter}
+use Rattle.peers.specs.Holdings.{after_add, after_remove, after_detach}
 use Rattle.peers.specs.Monitoring.{BecomesMonitor}
 use Rattle.peers.specs.NameRows.{RequestsName, ReleasesName}
 use Rattle.peers.specs.PeerState.{PeerState}
 use Rattle.peers.specs.Queries.{RepliesText, RepliesTexts, RepliesDigits, RepliesMachineId, AnswersFound, AreAllNames, AreQueuedFor, AnswersOwner, NamesOwner, TellsWhetherOwned, TellsOfOwned, bus_id, credentials_of, user_found}
-use Rattle.peers.specs.Rows.{Replies, IsConfirmed, NumbersEntry}
-use Rattle.peers.specs.Shares.{WithinShare, WithinMemory, WithinAll, rule_limit, program_limit}
+use Rattle.peers.specs.Rows.{Replies, IsConfirmed}
+use Rattle.peers.specs.Shares.{WithinShare, rule_limit}
 use Rattle.peers.specs.Stats.{AreFacts, AreTextLists, AnswersInsight, AnswersInsightLater}
 use Rattle.peers.specs.declared.error.AnswerError.{AnswerError}
 use Rattle.peers.specs.declared.refused.Refused.TheVariants.{Error}
@@ -34,9 +35,8 @@ module _ {M : Type 0} where
   Performs outbox_of shares request (calls.AddMatch text) v result w =
       WithinShare (rule_limit shares v.holdings) request (IsConfirmed request (λ asked pass. Once (λ before next. AddsMatch text.now v.pass before asked pass next)) after_add v result w) v result w
   Performs outbox_of shares request (calls.RemoveMatch text) v result w = IsConfirmed request (λ asked pass. Once (λ before next. RemovesMatch text.now v.pass before asked pass next)) after_remove v result w
-  Performs outbox_of shares request (calls.Attach edition program) v result w =
-      WithinShare (program_limit shares (vec_len program) v.holdings) request
-      (WithinMemory request (WithinAll request (NumbersEntry request (λ asked pass. Once (λ before next. Attaches edition program.items v.pass before asked pass next)) (after_attach (vec_len program)) v result w) v result w) v result w) v result w
+  Performs outbox_of shares request (calls.Attach edition program) v result w = AttachesProgram shares request edition (vec_len program) program.items v result w
+  Performs outbox_of shares request (calls.AttachFilter text) v result w = AttachesFilter shares request text.now v result w
   Performs outbox_of shares request (calls.Detach id) v result w = IsConfirmed request (λ asked pass. Once (λ before next. Answers false v.pass before (Detach v.pass.connection id) asked pass next)) (after_detach id) v result w
   Performs outbox_of shares request (calls.RequestName name flags) v result w = RequestsName outbox_of shares request name.now flags v result w
   Performs outbox_of shares request (calls.ReleaseName name) v result w = ReleasesName outbox_of request name.now v result w

@@ -14,6 +14,7 @@ mod calls;
 mod context;
 mod dispatch;
 mod error;
+mod filters;
 mod hello;
 mod holdings;
 mod identity;

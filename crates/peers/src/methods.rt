@@ -40,6 +40,7 @@ impl<B: BusBrand, M: Mailbox> Peer<B, M> {
             Call::AddMatch(text) => self.add_match(context, request, text),
             Call::RemoveMatch(text) => self.remove_match(context, request, text),
             Call::Attach(edition, program) => self.attach(context, request, edition, program),
+            Call::AttachFilter(text) => self.attach_filter(context, request, text),
             Call::Detach(id) => self.detach(context, request, id),
             Call::RequestName(name, flags) => self.request_name(
                 context, lists, request, name, flags,

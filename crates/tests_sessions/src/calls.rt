@@ -67,6 +67,7 @@ fn parts_of<'a>(call: &Call<'a>) -> (&'static str, &'a str, u32) {
 
 fn rest_of<'a>(call: &Call<'a>) -> (&'static str, &'a str, u32) {
     match call {
+        Call::AttachFilter(text) => ("AttachFilter", *text, 0),
         Call::ListActivatableNames => ("ListActivatableNames", "", 0),
         Call::ListQueuedOwners(name) => ("ListQueuedOwners", *name, 0),
         Call::GetId => ("GetId", "", 0),
@@ -99,7 +100,7 @@ fn rest_of<'a>(call: &Call<'a>) -> (&'static str, &'a str, u32) {
 }
 
 // Interface, member, signature and body of a call, and its text and its number.
-const CALLS: [(&str, &str, &[u8], &[u8], &str, u32); 27] = [
+const CALLS: [(&str, &str, &[u8], &[u8], &str, u32); 28] = [
     (BUS, "Hello", b"", b"", "", 0),
     (BUS, "AddMatch", b"s", TEXT, "x", 0),
     (BUS, "RemoveMatch", b"s", TEXT, "x", 0),
@@ -109,6 +110,7 @@ const CALLS: [(&str, &str, &[u8], &[u8], &str, u32); 27] = [
     (BUS, "NameHasOwner", b"s", TEXT, "x", 0),
     (BUS, "ListNames", b"", b"", "", 0),
     (PEER, "Ping", b"", b"", "", 0),
+    (PROGRAMS, "AttachFilter", b"s", TEXT, "x", 0),
     (PROGRAMS, "Detach", b"u", FIVE, "", 5),
     (BUS, "StartServiceByName", b"su", TEXT_AND_FIVE, "x", 0),
     (BUS, "ListActivatableNames", b"", b"", "", 0),

@@ -25,7 +25,7 @@ fn described(rt: HostRuntime) {
     for line in &LINES {
         expect_count(&rt, text.as_str(), *line, 1);
     }
-    expect_count(&rt, text.as_str(), "<method ", 32);
-    expect_count(&rt, text.as_str(), "</method>", 32);
+    expect_count(&rt, text.as_str(), "<method ", 33);
+    expect_count(&rt, text.as_str(), "</method>", 33);
     assert!(rt; text.as_str().ends_with("</interface>\n</node>\n"));
 }

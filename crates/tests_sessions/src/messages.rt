@@ -2,8 +2,8 @@
 // cases_bus (`hello_reply`, `hello_and_match`).
 
 use bus_messages::{
-    Body, BuildError, Bytes, ErrorName, Fact, NamedFact, Property, error, name_lost,
-    name_owner_changed, reply,
+    Body, BuildError, Bytes, ErrorName, Fact, FilterFault, NamedFact, Property, bad_filter, error,
+    name_lost, name_owner_changed, reply,
 };
 use message_view::View;
 use std::alloc::Global;
@@ -26,6 +26,17 @@ const EDITION: &str =
 fn error_without_destination(rt: HostRuntime) {
     let sent = error(rt.alloc(), 7, None, 6, ErrorName::BadEdition);
     expect_bytes(&rt, rt.alloc(), sent, EDITION);
+}
+
+// By the same rules: a filter asks who owns a name.
+const ASKS_OWNER: &str =
+    "6c03010128000000090000006f00000004017300270000006f72672e6578616d706c652e50726f6772616d427573312e4572726f722e42616446696c74657200050175000400000006017300040000003a312e320000000007017300140000006f72672e667265656465736b746f702e444275730000000008016700017300002300000042616446696c7465723a2053656e6465724e616d6520636f6d2e6578616d706c652e4100";
+
+#[test]
+fn filter_that_asks_who_owns(rt: HostRuntime) {
+    let fault = FilterFault::SenderName("com.example.A");
+    let sent = bad_filter(rt.alloc(), 9, Some(":1.2"), 4, fault);
+    expect_bytes(&rt, rt.alloc(), sent, ASKS_OWNER);
 }
 
 const CHANGED: &str =
