@@ -1,22 +1,20 @@
 -- Filters that are attached, and what is answered of others.
-use Rattle.std.specs.Prelude.{IfOk, option_map}
-use Rattle.std.proofs.Common.{◌≡◌, ℕ, Bool, true, false, Bor, List, [], Option, None, Some, Result, Ok, Err, length, inl, inr, sym, subst, ⊎_elim, true≢false}
+use Rattle.std.specs.Prelude.{option_map}
+use Rattle.std.proofs.Common.{◌≡◌, ℕ, Bor, List, [], Option, None, Some, Result, length, inl, inr, sym, subst}
 use Rattle.bpf_code.specs.declared.instruction.Ins.{Ins}
-use Rattle.message_build.specs.Asked.{Asked}
 use Rattle.message_build.specs.Building.{AreAsked}
 use Rattle.filter.specs.FilterTree.{FilterTree}
 use Rattle.filter_compile.specs.Names.{names_of}
 use Rattle.summary.specs.declared.edition.Edition.TheVariants.{Two}
-use Rattle.bus_messages.specs.Sent.{bad_filter_asked, error_asked}
+use Rattle.bus_messages.specs.Sent.{bad_filter_asked}
 use Rattle.bus_messages.specs.declared.error_name.ErrorName.TheVariants as names
 use Rattle.peers.specs.declared.error.AnswerError.{AnswerError}
 use Rattle.peers.specs.declared.request.Request.{Request}
 use Rattle.peers.specs.declared.shares.Shares.{Shares}
-use Rattle.peers.specs.Answers.{IsAnswered, IsEither, IsPut, after_serial, fault_asked, fault_with}
+use Rattle.peers.specs.Answers.{IsEither, fault_asked}
 use Rattle.peers.specs.Attachments.{AttachesProgram, AttachesTree, IsFirst, IsProgramOf, bad_filter_with}
 use Rattle.peers.specs.PeerState.{PeerState, name_of}
 use Rattle.peers.specs.Shares.{WithinMemory}
-use Rattle.peers.proofs.Putting.{put_as, fault_is}
 
 -- the error is the message that a builder is asked for
 pub bad_filter_is : (serial : ℕ) (to : List ℕ) (request : Request) (fault bytes : List ℕ) → AreAsked (bad_filter_asked serial (Some to) request.serial fault) bytes → AreAsked (bad_filter_with serial to request fault) bytes
@@ -29,33 +27,12 @@ none_first names None e h = h
 none_first names (Some text) e h = absurd (cc)
 
 module _ {M : Type 0} where
-  said_if : (serial : ℕ) (wants : Bool) (asked : Asked) (v w : PeerState M) (result : Result (Unit {0}) AnswerError) → wants ≡ true
-      → IsPut (IsEither asked (fault_asked v (record { serial = serial; wants_answer = wants }) names.NoMemory)) (after_serial v) result w → IsAnswered (record { serial = serial; wants_answer = wants }) asked v result w
-  said_if serial true asked v w result e h = h
-  said_if serial false asked v w result e h = absurd (true≢false (sym e))
-
-  -- what was built for a caller that waits was put
-  pub said : (request : Request) (asked : Asked) (bytes : List ℕ) (v u w : PeerState M) (result : Result (Unit {0}) AnswerError) → request.wants_answer ≡ true → u ≡ after_serial v → IsEither asked (fault_asked v request names.NoMemory) bytes
-      → IsPut (λ put. put ≡ bytes) u result w → IsAnswered request asked v result w
-  said request asked bytes v u w result waits is built put =
-      let P : List ℕ → Type 0 = IsEither asked (fault_asked v request names.NoMemory) in
-      said_if request.serial request.wants_answer asked v w result waits (put_as (λ put. put ≡ bytes) P u (after_serial v) result w is (λ put e. subst P (sym e) built) put)
-
   -- the error was built with the serial and the name of the client
   pub fault_said : (request : Request) (fault : List ℕ) (v : PeerState M) (serial : ℕ) (to bytes : List ℕ) → serial ≡ v.serial → to ≡ name_of v → AreAsked (bad_filter_asked serial (Some to) request.serial fault) bytes
       → IsEither (bad_filter_with v.serial (name_of v) request fault) (fault_asked v request names.NoMemory) bytes
   fault_said request fault v serial to bytes s t built =
       let A : ℕ → List ℕ → Type 0 = λ n x. AreAsked (bad_filter_with n x request fault) bytes in
       inl (subst (A v.serial) t (subst (λ n. A n to) s (bad_filter_is serial to request fault bytes built)))
-
-  -- the error NoMemory was, in its place
-  pub memory_said : (request : Request) (fault : List ℕ) (v : PeerState M) (serial : ℕ) (to : List ℕ) (result : Result (List ℕ) AnswerError) → serial ≡ v.serial → to ≡ name_of v
-      → IfOk result (IsEither (error_asked serial (Some to) request.serial names.NoMemory) (error_asked serial (Some to) request.serial names.NoMemory)) → IfOk result (IsEither (bad_filter_with v.serial (name_of v) request fault) (fault_asked v request names.NoMemory))
-  memory_said request fault v serial to (Ok bytes) s t built =
-      let A : ℕ → List ℕ → Type 0 = λ n x. AreAsked (fault_with n x request names.NoMemory) bytes in
-      let moved : AreAsked (error_asked serial (Some to) request.serial names.NoMemory) bytes → AreAsked (fault_asked v request names.NoMemory) bytes = λ h. subst (A v.serial) t (subst (λ n. A n to) s (fault_is serial to request names.NoMemory bytes h)) in
-      inr (⊎_elim moved moved built)
-  memory_said request fault v serial to (Err error) s t built = tt
 
   -- the program of a filter that asks who owns no name
   pub with_program : (shares : Shares) (request : Request) (filter : FilterTree) (len : ℕ) (program : List Ins) (found : Option (Bor (List ℕ))) (v w : PeerState M) (result : Result (Unit {0}) AnswerError) → len ≡ length program → found ≡ None

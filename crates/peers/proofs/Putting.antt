@@ -88,10 +88,10 @@ module _ {M : Type 0} where
   faults_are request name v serial to (Err error) s t built = tt
 
   -- the error NoMemory was, in place of an answer
-  pub fault_built : (request : Request) (body : Body) (v : PeerState M) (serial : ℕ) (to : List ℕ) (result : Result (List ℕ) AnswerError) → serial ≡ v.serial → to ≡ name_of v
-      → IfOk result (IsEither (error_asked serial (Some to) request.serial names.NoMemory) (error_asked serial (Some to) request.serial names.NoMemory)) → IfOk result (IsEither (reply_with v.serial (name_of v) request body) (fault_asked v request names.NoMemory))
-  fault_built request body v serial to (Ok bytes) s t built = let moved = fault_moved request names.NoMemory v serial to bytes s t in inr (⊎_elim moved moved built)
-  fault_built request body v serial to (Err error) s t built = tt
+  pub fault_built : (request : Request) (asked : Asked) (v : PeerState M) (serial : ℕ) (to : List ℕ) (result : Result (List ℕ) AnswerError) → serial ≡ v.serial → to ≡ name_of v
+      → IfOk result (IsEither (error_asked serial (Some to) request.serial names.NoMemory) (error_asked serial (Some to) request.serial names.NoMemory)) → IfOk result (IsEither asked (fault_asked v request names.NoMemory))
+  fault_built request asked v serial to (Ok bytes) s t built = let moved = fault_moved request names.NoMemory v serial to bytes s t in inr (⊎_elim moved moved built)
+  fault_built request asked v serial to (Err error) s t built = tt
 
   pub placed_as : (standing : Standing) (outbox_of : M → OutboxId) (history : List (Command M)) (P Q : List ℕ → Type 0) (v : PeerState M) (result : Result (Unit {0}) AnswerError) (w : PeerState M) → ((bytes : List ℕ) → P bytes → Q bytes)
       → IsPutAt standing outbox_of history P v result w → IsPutAt standing outbox_of history Q v result w

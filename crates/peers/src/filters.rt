@@ -100,10 +100,10 @@ impl<B: BusBrand, M: Mailbox> Peer<B, M> {
     {
         let serial = self.serials.take();
         let to = Some(self.name.as_str());
-        match bad_filter(alloc, serial, to, request.serial, fault) {
-            Ok(bytes) => Ok(bytes),
-            Err(_) => error_bytes(alloc, serial, to, request, ErrorName::NoMemory),
+        if let Ok(bytes) = bad_filter(alloc, serial, to, request.serial, fault) {
+            return Ok(bytes);
         }
+        error_bytes(alloc, serial, to, request, ErrorName::NoMemory)
     }
 }
 

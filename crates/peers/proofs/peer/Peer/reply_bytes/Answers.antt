@@ -1,5 +1,6 @@
 use Rattle.std.proofs.Common.{◌≡◌, ◌∙◌, ap}
 use Rattle.unique_name.specs.UniqueNames.{unique_name}
+use Rattle.peers.specs.Answers.{reply_with}
 use Rattle.peers.specs.PeerState.{PeerState, name_of}
 use Rattle.peers.proofs.Putting.{reply_built, fault_built}
 use Rattle.peers.proofs.peer.Peer.reply_bytes.Goals as goal
@@ -16,4 +17,4 @@ returns-clause-built g c =
     let v : PeerState g.row.M.Denot = c.args.self.now in
     let named : c.as_str.result.now ≡ name_of v = c.as_str.ensures.text ∙ ap unique_name (c.self.invariant ∙ ap (λ (v : PeerState g.row.M.Denot). v.pass.connection) c.self.view_is) in
     let serial : c.take-serial.result ≡ v.serial = c.take-serial.ensures.next ∙ ap (λ (v : PeerState g.row.M.Denot). v.serial) c.self.view_is in
-    fault_built c.args.request c.args.body v c.take-serial.result c.as_str.result.now c.error_bytes.result serial named c.error_bytes.ensures.built
+    fault_built c.args.request (reply_with v.serial (name_of v) c.args.request c.args.body) v c.take-serial.result c.as_str.result.now c.error_bytes.result serial named c.error_bytes.ensures.built
