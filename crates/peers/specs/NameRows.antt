@@ -44,7 +44,7 @@ module _ {M : Type 0} where
   ChangesName outbox_of request call change v result w =
       (asked : Result Reply BusError) × (mid : PeerState M) × (announced answered : Result (Unit {0}) AnswerError)
       × Once (λ before next.
-          ChangesOwner outbox_of call v before asked announced mid next × TellsNamed (IsPutAt standings.State outbox_of next.history) request asked (with_holdings (change asked) mid) answered w)
+      ChangesOwner outbox_of call v before asked announced mid next × TellsNamed (IsPutAt standings.State outbox_of next.history) request asked (with_holdings (change asked) mid) answered w)
       × (result ≡ result_and announced answered)
 
   -- within the client's share of names

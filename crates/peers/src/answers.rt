@@ -53,16 +53,17 @@ impl<B: BusBrand, M: Mailbox> Peer<B, M> {
         context: &Context<'_, B, M, W, R>,
         control: &mut Control<B, M, R>,
         request: Request,
-        body: Body<'_>,
+        told: Body<'_>,
     ) -> Result<(), AnswerError>
-        ensures answer { RepliesBy (IsPutAt Standing.State M.outbox_of control.old.history) request body.entry self.old result self.new }
+        ensures answer { RepliesBy (IsPutAt Standing.State M.outbox_of control.old.history) request told.entry self.old result self.new }
         ensures error { UnlessShut request.wants_answer result self.new }
     {
         if !request.wants_answer {
             return Ok(());
         }
-        let bytes = self.reply_bytes(context.alloc, request, body)?;
-        self.put_placed(context, control, Standing::State, bytes)
+        let bytes = self.reply_bytes(context.alloc, request, told)?;
+        let at = Standing::State;
+        self.put_placed(context, control, at, bytes)
     }
 
     /// Answers a call with an error, if its caller waits for an answer.
@@ -104,13 +105,13 @@ impl<B: BusBrand, M: Mailbox> Peer<B, M> {
         ensures answer { RefusesBy (IsPutAt Standing.State M.outbox_of control.old.history) request why self.old result self.new }
         ensures error { UnlessShut request.wants_answer result self.new }
     {
-        let Refused::Error(name) = why else {
+        let Refused::Error(fault) = why else {
             return Err(AnswerError::NoMemory);
         };
         if !request.wants_answer {
             return Ok(());
         }
-        let bytes = self.fault_bytes(context.alloc, request, name)?;
+        let bytes = self.fault_bytes(context.alloc, request, fault)?;
         self.put_placed(context, control, Standing::State, bytes)
     }
 
@@ -231,13 +232,13 @@ impl<B: BusBrand, M: Mailbox> Peer<B, M> {
         context: &Context<'_, B, M, W, R>,
         control: &mut Control<B, M, R>,
         at: Standing,
-        bytes: Bytes,
+        message: Bytes,
     ) -> Result<(), AnswerError>
-        ensures put { IsPutAt at M.outbox_of control.old.history (λ put. put ≡ bytes) self.old result self.new }
+        ensures put { IsPutAt at M.outbox_of control.old.history (λ put. put ≡ message) self.old result self.new }
         ensures slow { SlowIfShut result self.new }
         ensures control { control.new ≡ control.old }
     {
-        context.bus.show(context.rt, context.alloc, None, &bytes);
+        context.bus.show(context.rt, context.alloc, None, &message);
         let sent = control.send_to(
             context.rt,
             context.alloc,
@@ -245,7 +246,7 @@ impl<B: BusBrand, M: Mailbox> Peer<B, M> {
             at,
             Source::Bus,
             self.name.as_str(),
-            &bytes,
+            &message,
         );
         match sent {
             Ok(Sent::Put(_)) => Ok(()),

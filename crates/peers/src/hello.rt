@@ -105,11 +105,11 @@ impl<B: BusBrand, M: Mailbox> Peer<B, M> {
         ensures error { UnlessShut request.wants_answer result self.new }
         ensures control { control.new ≡ control.old }
     {
-        if !request.wants_answer {
-            return Ok(());
+        if request.wants_answer {
+            let name = UniqueName::new(self.pass.connection());
+            let bytes = self.reply_bytes(context.alloc, request, Body::Text(name.as_str()))?;
+            return self.put_placed(context, control, Standing::Last, bytes);
         }
-        let name = UniqueName::new(self.pass.connection());
-        let bytes = self.reply_bytes(context.alloc, request, Body::Text(name.as_str()))?;
-        self.put_placed(context, control, Standing::Last, bytes)
+        Ok(())
     }
 }

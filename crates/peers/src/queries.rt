@@ -171,7 +171,12 @@ impl<B: BusBrand, M: Mailbox> Peer<B, M> {
         match all_name_texts(context.alloc, unique, names) {
             Ok(texts) => self.answer_texts_placed(context, control, request, texts.as_slice()),
             Err(_) => {
-                self.refuse_placed(context, control, request, Refused::Error(ErrorName::NoMemory))
+                self.refuse_placed(
+                    context,
+                    control,
+                    request,
+                    Refused::Error(ErrorName::NoMemory),
+                )
             }
         }
     }
@@ -243,7 +248,12 @@ impl<B: BusBrand, M: Mailbox> Peer<B, M> {
         match texts_of(context.alloc, unique) {
             Ok(texts) => self.answer_texts_placed(context, control, request, texts.as_slice()),
             Err(_) => {
-                self.refuse_placed(context, control, request, Refused::Error(ErrorName::NoMemory))
+                self.refuse_placed(
+                    context,
+                    control,
+                    request,
+                    Refused::Error(ErrorName::NoMemory),
+                )
             }
         }
     }

@@ -8,8 +8,8 @@ use Rattle.peers.specs.PeerState.{PeerState, name_of}
 use Rattle.peers.proofs.Putting.{built_placed, answered_if, not_false, text_is}
 use Rattle.peers.proofs.peer.Peer.answer_hello.Goals as goal
 
-pub returns-clause-answer : goal.returns-clause-answer
-returns-clause-answer g c =
+pub returns-then-request-clause-answer : goal.returns-clause-answer
+returns-then-request-clause-answer g c =
     let v : PeerState g.row.M.Denot = c.args.self.now in
     let history = c.args.control.now.history in
     let outbox_of = g.M.Mailbox.outbox_of in

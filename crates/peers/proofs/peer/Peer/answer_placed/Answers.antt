@@ -10,6 +10,6 @@ returns-clause-answer g c =
     let v = c.args.self.now in
     let history = c.args.control.now.history in
     let outbox_of = g.M.Mailbox.outbox_of in
-    let asked = reply_with v.serial (name_of v) c.args.request c.args.body in
+    let asked = reply_with v.serial (name_of v) c.args.request c.args.told in
     answered_if (IsPutAt standings.State outbox_of history) c.args.request asked v c.put_placed.result c.put_placed.new.self (not_false _ c.if-not-request.false)
     (built_placed standings.State outbox_of history (IsEither asked (fault_asked v c.args.request NoMemory)) c.in_ok-bytes.bytes v c.reply_bytes.new.self c.put_placed.new.self c.put_placed.result c.reply_bytes.ensures.same c.in_ok-bytes.ensures.built c.put_placed.ensures.put)

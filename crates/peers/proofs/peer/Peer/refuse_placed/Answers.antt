@@ -9,5 +9,5 @@ returns-clause-answer g c =
     let v = c.args.self.now in
     let history = c.args.control.now.history in
     let outbox_of = g.M.Mailbox.outbox_of in
-    refused_if (IsPutAt standings.State outbox_of history) c.args.request c.args.why c.in-Error.name v c.put_placed.result c.put_placed.new.self c.in-Error.is (not_false _ c.if-not-request.false)
-    (built_placed standings.State outbox_of history (IsEither (fault_asked v c.args.request c.in-Error.name) (fault_asked v c.args.request NoMemory)) c.in_ok-bytes.bytes v c.fault_bytes.new.self c.put_placed.new.self c.put_placed.result c.fault_bytes.ensures.same c.in_ok-bytes.ensures.built c.put_placed.ensures.put)
+    refused_if (IsPutAt standings.State outbox_of history) c.args.request c.args.why c.in-Error.fault v c.put_placed.result c.put_placed.new.self c.in-Error.is (not_false _ c.if-not-request.false)
+    (built_placed standings.State outbox_of history (IsEither (fault_asked v c.args.request c.in-Error.fault) (fault_asked v c.args.request NoMemory)) c.in_ok-bytes.bytes v c.fault_bytes.new.self c.put_placed.new.self c.put_placed.result c.fault_bytes.ensures.same c.in_ok-bytes.ensures.built c.put_placed.ensures.put)
