@@ -62,9 +62,10 @@ def methods():
 def errors():
     """The errors that the bus answers: their names, each with its sentence, unless others stand for it."""
     text = source("crates/bus_messages/src/error_name.rt")
-    names = re.findall(r'"((?:\w+\.)+Error\.\w+)"', text)
+    # The error BadFilter has a text of the call, so it is no ErrorName.
+    names = re.findall(r'"((?:\w+\.)+Error\.\w+)"', text + source("crates/bus_messages/src/sent.rt"))
     sentences = dict(re.findall(r'word: "(\w+)",\s+sentence: (?:"([^"]+)"|[\w.]+\(\))', text))
-    return {name: sentences[name.rpartition(".")[2]] for name in names}
+    return {name: sentences.get(name.rpartition(".")[2], "") for name in names}
 
 
 def faults(crate):
