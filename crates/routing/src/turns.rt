@@ -139,7 +139,7 @@ impl Turns {
 
     /// Puts an item that bears the latest place at the outbox of the connection, by one's own seat there. A put that is refused,
     /// as `Outbox::put_placed` refuses it, gives the item back, and the outbox is shut.
-    pub fn put<R: Wait>(
+    pub(crate) fn put<R: Wait>(
         &mut self,
         rt: &R,
         number: u64,
