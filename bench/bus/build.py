@@ -10,7 +10,7 @@ ROOT = os.path.dirname(os.path.dirname(HERE))
 # The libraries that a program's own files name.
 NAMES = {
     "figures": "message_view match_rule owners entry_table program_table fan_out published outbox routing router bytes",
-    "growths": "message_view bpf_code summary owners program_table fan_out published outbox routing router bytes entry_table",
+    "growths": "message_view bpf_code summary owners program_table fan_out published outbox routing router bytes entry_table arrayvec",
     "stress": "message_view bpf_code summary owners entry_table program_table published outbox routing router bytes",
 }
 # What a build reads of a library's folder, and what an earlier build left there: its proofs, which take long, aren't made
