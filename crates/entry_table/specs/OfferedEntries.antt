@@ -3,24 +3,29 @@ use Rattle.std.specs.Prelude.{◌≢◌, ◌↔◌, ℕ, Bool, List, Contains, A
 use Rattle.message_view.specs.Message.{Message}
 use Rattle.match_rule.specs.RuleTree.{RuleTree}
 use Rattle.match_rule.specs.Holds.{Holds}
-use Rattle.match_rule.specs.FixedTexts.{FixedTexts, no_texts, fixed_texts, texts_of, AreFound}
+use Rattle.match_rule.specs.FixedTexts.{FixedTexts, fixed_texts, texts_of, AreFound}
 use Rattle.entry_table.specs.declared.entry.Entry.{Entry}
 use Rattle.entry_table.specs.declared.entry.Filter.{Filter}
 use Rattle.entry_table.specs.declared.entry.Filter.TheVariants.{Rule, Attached}
-use Rattle.entry_table.specs.Namespaces.{Namespaces, no_namespaces, namespaces_asked, AreInside}
+use Rattle.entry_table.specs.AttachedProgram.{AskedTexts}
+use Rattle.entry_table.specs.Namespaces.{Namespaces, namespaces_asked, AreInside}
 
--- the texts that a filter fixes by equality; an attached program fixes none
+-- the texts that a filter fixes by equality; an attached program those of the messages that it is for
 abbrev pub texts_fixed : Filter → FixedTexts
 texts_fixed (Rule compiled) = fixed_texts compiled.rule
-texts_fixed (Attached program) = no_texts
+texts_fixed (Attached program) = program.asked.texts
 
--- the namespaces that a filter asks for; an attached program asks for none
+-- the namespaces that a filter asks for
 abbrev pub namespaces_fixed : Filter → Namespaces
 namespaces_fixed (Rule compiled) = namespaces_asked compiled.rule
-namespaces_fixed (Attached program) = no_namespaces
+namespaces_fixed (Attached program) = program.asked.namespaces
 
--- A message is offered to an entry where it has each text that the entry's rule fixes, and lies in each namespace that
--- the rule asks for; to an attached program it always is. Of the message that takes no more than its texts.
+-- the message is one that an attached program is for: it has each of the texts, and lies in each of the namespaces
+abbrev pub IsFor : AskedTexts → Message → Type 0
+IsFor asked m = AreFound asked.texts (texts_of m) × AreInside asked.namespaces (texts_of m)
+
+-- A message is offered to an entry where it has each text that the entry's filter fixes, and lies in each namespace that
+-- the filter asks for. Of the message that takes no more than its texts.
 abbrev pub IsOffered : FixedTexts → Entry → Type 0
 IsOffered texts e = AreFound (texts_fixed e.filter) texts × AreInside (namespaces_fixed e.filter) texts
 

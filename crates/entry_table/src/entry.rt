@@ -38,7 +38,7 @@ impl Filter {
     {
         match self {
             Filter::Rule(compiled) => compiled.shape(),
-            Filter::Attached(_) => 0,
+            Filter::Attached(program) => program.shape(),
         }
     }
 

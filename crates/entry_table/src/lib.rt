@@ -22,7 +22,7 @@ mod table;
 mod text_points;
 mod texts;
 
-pub use attachment::Attachment;
+pub use attachment::{AskedTexts, Attachment};
 pub use entry::{Entry, Filter};
 pub use index_key::IndexKey;
 pub use namespaces::offered_where_it_holds;

@@ -1,10 +1,11 @@
 // The texts that an entry is looked up by.
 
-ghost use Rattle.std.specs.Prelude.{◌≡◌, ◌≤◌, option_map};
+ghost use Rattle.std.specs.Prelude.{◌≡◌, ◌≤◌, option_map, string_bytes};
 ghost use Rattle.entry_table.specs.TextKeys.{bit_of, hash_of_texts, text_hash};
 
+use crate::attachment::AskedTexts;
 use crate::entry::Filter;
-use crate::namespaces::{arg0_namespace, path_namespace};
+use crate::namespaces::{arg0_namespace, front_of, path_namespace};
 use crate::text_points::TextPoints;
 use match_rule::{FixedTexts, Rule};
 use std::marker::Model;
@@ -53,12 +54,22 @@ pub(crate) fn hash_of(point: &Point, text: Option<&str>) -> u64
     }
 }
 
+/// A text, or none.
+fn text_of(text: &Option<String>) -> Option<&str>
+    ensures { option_map (λ text. text.now) result ≡ option_map string_bytes text.now }
+{
+    match text {
+        None => None,
+        Some(text) => Some(text.as_str()),
+    }
+}
+
 /// The texts that an entry is looked up by: those that it fixes, and its namespaces as fronts of texts.
 #[derive(Drop)]
 pub(crate) struct LookupTexts<'a> {
-    texts: FixedTexts<'a>,
-    path_namespace: Option<&'a str>,
-    arg0_namespace: Option<&'a str>,
+    pub(crate) texts: FixedTexts<'a>,
+    pub(crate) path_namespace: Option<&'a str>,
+    pub(crate) arg0_namespace: Option<&'a str>,
 }
 
 impl<'a> Model for LookupTexts<'a> {
@@ -72,7 +83,7 @@ impl<'a> Model for LookupTexts<'a> {
 
 impl<'a> LookupTexts<'a> {
     ghost use Rattle.std.specs.Prelude.{◌≡◌, ◌<◌};
-    ghost use Rattle.entry_table.specs.RuleHints.{rule_texts};
+    ghost use Rattle.entry_table.specs.RuleHints.{asked_texts, rule_texts};
     ghost use Rattle.entry_table.specs.TextKeys.{shape_of, joined_hash};
     ghost use Rattle.entry_table.specs.EntryTexts.{lookup_texts};
 
@@ -87,17 +98,30 @@ impl<'a> LookupTexts<'a> {
         }
     }
 
-    /// Those of a filter: an attached program has none.
+    /// Those of the messages that an attached program is for.
+    pub(crate) fn of_asked(asked: &'a AskedTexts) -> Self
+        ensures { result ≡ asked_texts asked.now }
+    {
+        LookupTexts {
+            texts: FixedTexts {
+                member: text_of(&asked.member),
+                interface: text_of(&asked.interface),
+                path: text_of(&asked.path),
+                sender: None,
+                arg0: text_of(&asked.arg0),
+            },
+            path_namespace: front_of(text_of(&asked.path_namespace)),
+            arg0_namespace: text_of(&asked.arg0_namespace),
+        }
+    }
+
+    /// Those of a filter.
     pub(crate) fn of(filter: &'a Filter) -> Self
         ensures { result ≡ lookup_texts filter.now }
     {
         match filter {
             Filter::Rule(compiled) => Self::of_rule(compiled.rule()),
-            Filter::Attached(_) => LookupTexts {
-                texts: FixedTexts::none(),
-                path_namespace: None,
-                arg0_namespace: None,
-            },
+            Filter::Attached(program) => Self::of_asked(program.asked()),
         }
     }
 

@@ -30,14 +30,21 @@ fn namespace_front(namespace: &str) -> &str
     if namespace == "/" { "" } else { namespace }
 }
 
+/// A path namespace, if there is one, as a front of paths.
+pub(crate) fn front_of(namespace: Option<&str>) -> Option<&str>
+    ensures { option_map (λ text. text.now) result ≡ option_map namespace_front (option_map (λ text. text.now) namespace.entry) }
+{
+    match namespace {
+        None => None,
+        Some(namespace) => Some(namespace_front(namespace)),
+    }
+}
+
 /// The path namespace that a rule asks for, as a front of paths, if it asks for one.
 pub(crate) fn path_namespace(rule: &Rule) -> Option<&str>
     ensures { option_map (λ text. text.now) result ≡ option_map namespace_front (namespace_asked rule.now) }
 {
-    match rule.path_namespace() {
-        None => None,
-        Some(namespace) => Some(namespace_front(namespace)),
-    }
+    front_of(rule.path_namespace())
 }
 
 /// The longest front of a text after which the divider stands.

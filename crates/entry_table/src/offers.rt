@@ -6,6 +6,7 @@ ghost use Rattle.entry_table.specs.FoundTexts.{is_offered, offered_at, coming, I
 
 use crate::entry::{Entry, Filter};
 use crate::entry_slab::EntrySlab;
+use crate::lookup_texts::LookupTexts;
 use crate::texts::{HASH_LISTS, MessageTexts};
 use place_lists::{Lists, Walk};
 use std::marker::Model;
@@ -24,9 +25,10 @@ fn is_offered(shape: u16, found: &MessageTexts<'_>, entry: &Entry) -> bool
     }
     match &entry.filter {
         Filter::Rule(compiled) => {
-            found.has(compiled.rule()) && found.has_namespaces(shape, compiled.rule())
+            found.has(&compiled.rule().fixed_texts())
+                && found.has_namespaces(shape, compiled.rule())
         }
-        Filter::Attached(_) => true,
+        Filter::Attached(program) => found.has_all(&LookupTexts::of_asked(program.asked())),
     }
 }
 

@@ -4,18 +4,17 @@ ghost use Rattle.std.specs.Prelude.{◌≡◌, ◌≤◌, None, [], ◌∷◌, M
 ghost use Rattle.std.specs.Option.{ForSome};
 ghost use Rattle.message_view.specs.Message.{Message};
 ghost use Rattle.message_view.specs.Valid.{Valid};
-ghost use Rattle.match_rule.specs.FixedTexts.{fixed_texts};
 ghost use Rattle.match_rule.specs.PathNamespaces.{namespace_asked};
 ghost use Rattle.entry_table.specs.HeldTexts.{text_in};
-ghost use Rattle.entry_table.specs.FoundTexts.{is_text_found, are_texts_found, are_namespaces_found, texts_read};
+ghost use Rattle.entry_table.specs.FoundTexts.{is_text_found, are_texts_found, are_namespaces_found, are_found, texts_read};
 ghost use Rattle.entry_table.specs.TextKeys.{shape_of, in_shape, text_hash, joined_hash, list_of, hash_lists};
 ghost use Rattle.entry_table.specs.RuleHints.{rule_texts};
 ghost use Rattle.entry_table.specs.Lookups.{first_texts, of_shape_after};
 
-use crate::lookup_texts::{hash_of, join_hashes};
+use crate::lookup_texts::{LookupTexts, hash_of, join_hashes};
 use crate::namespaces::{arg0_namespace, front_after, path_namespace};
 use crate::text_points::TextPoints;
-use match_rule::{Rule, arg0_of};
+use match_rule::{FixedTexts, Rule, arg0_of};
 use message_view::View;
 use std::marker::Model;
 use text_hash::Point;
@@ -252,16 +251,24 @@ impl<'a> MessageTexts<'a> {
         self.arg0_namespace = self.arg0;
     }
 
-    /// Whether each of the texts that a rule fixes is the message's.
-    pub(crate) fn has(&self, rule: &Rule) -> bool
-        ensures { result ≡ are_texts_found (fixed_texts rule.now) self.now.texts.texts }
+    /// Whether each of these texts is the message's.
+    pub(crate) fn has(&self, asked: &FixedTexts<'_>) -> bool
+        ensures { result ≡ are_texts_found asked.now self.now.texts.texts }
     {
-        let asked = rule.fixed_texts();
         is_text_found(asked.member, self.member.get())
             && is_text_found(asked.interface, self.interface.get())
             && is_text_found(asked.path, self.path.get())
             && is_text_found(asked.sender, self.sender.get())
             && is_text_found(asked.arg0, self.arg0.get())
+    }
+
+    /// Whether each of the texts that an entry is looked up by is the one that is looked up.
+    pub(crate) fn has_all(&self, asked: &LookupTexts<'_>) -> bool
+        ensures { result ≡ are_found asked.now self.now.texts }
+    {
+        self.has(&asked.texts)
+            && is_text_found(asked.path_namespace, self.path_namespace.get())
+            && is_text_found(asked.arg0_namespace, self.arg0_namespace.get())
     }
 
     /// Whether the namespaces that a rule of a shape asks for are those that are looked up.

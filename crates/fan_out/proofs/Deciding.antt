@@ -20,7 +20,8 @@ use Rattle.rule_compile.specs.Compiled.{AgreeOn}
 use Rattle.entry_table.specs.AttachedProgram.{AttachedProgram}
 use Rattle.entry_table.specs.CompiledRule.{CompiledRule}
 use Rattle.entry_table.specs.Envelopes.{FilterFits}
-use Rattle.entry_table.specs.OfferedEntries.{texts_fixed}
+use Rattle.entry_table.specs.Namespaces.{AreInside}
+use Rattle.entry_table.specs.OfferedEntries.{texts_fixed, namespaces_fixed, IsFor}
 use Rattle.entry_table.specs.declared.entry.Filter.{Filter}
 use Rattle.entry_table.specs.declared.entry.Filter.TheVariants.{Rule, Attached}
 use Rattle.program_table.specs.Registrations.{Registrations}
@@ -71,17 +72,17 @@ module _ (r : Registrations) (sender : Option ℕ) (words : List ℕ) (owned : A
         let holds = rest.rest.decides bytes m words (is_owned r sender) rest.says.verdict run.0 valid owned.set agrees found fits run.1 in
         ((λ yes. holds.0 (rest.says.same.0 yes)), (λ held. rest.says.same.1 (holds.1 held)))
 
-    attached_decided : (attached : AttachedProgram) (answer : Bool) → Says attached.edition bytes words attached.program answer → (IsTrue answer ↔ FilterMatches r sender m (Attached attached))
-    attached_decided attached answer says =
+    attached_decided : (attached : AttachedProgram) (answer : Bool) → IsFor attached.asked m → Says attached.edition bytes words attached.program answer → (IsTrue answer ↔ FilterMatches r sender m (Attached attached))
+    attached_decided attached answer meant says =
         let run = says.ends.ends m valid in (
-          (λ yes. (words, says.verdict, run.0, owned, says.same.0 yes, run.1)),
-          (λ (others, verdict, steps, theirs, positive, ends).
+          (λ yes. (meant, words, says.verdict, run.0, owned, says.same.0 yes, run.1)),
+          (λ (theirs_too, others, verdict, steps, theirs, positive, ends).
               let same : others ≡ words = same_words others words theirs.set owned.set (λ slot. theirs.owned slot ∙ sym (owned.owned slot)) in
               let over : Ends attached.program (image_bytes attached.edition m words) verdict steps = subst (λ (ws : List ℕ). Ends attached.program (image_bytes attached.edition m ws) verdict steps) same ends in
               let one = one_way attached.program (image_bytes attached.edition m words) says.verdict verdict run.0 steps run.1 over in
               says.same.1 (rw one.0 positive)),
         )
 
-    pub filter_decided : (filter : Filter) (answer : Bool) → is_own_slot (sender_asked filter) (slot_in filter) r.slots ≡ true → AreFound (texts_fixed filter) (texts_of m) → FilterFits filter m → IsAnswer bytes words filter answer → (IsTrue answer ↔ FilterMatches r sender m filter)
-    filter_decided (Rule compiled) answer own found fits rest = rule_decided compiled answer own found fits rest
-    filter_decided (Attached attached) answer own found fits says = attached_decided attached answer says
+    pub filter_decided : (filter : Filter) (answer : Bool) → is_own_slot (sender_asked filter) (slot_in filter) r.slots ≡ true → AreFound (texts_fixed filter) (texts_of m) × AreInside (namespaces_fixed filter) (texts_of m) → FilterFits filter m → IsAnswer bytes words filter answer → (IsTrue answer ↔ FilterMatches r sender m filter)
+    filter_decided (Rule compiled) answer own offered fits rest = rule_decided compiled answer own offered.0 fits rest
+    filter_decided (Attached attached) answer own offered fits says = attached_decided attached answer offered says

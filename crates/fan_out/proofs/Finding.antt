@@ -36,7 +36,7 @@ module _ {M : Type 0} where
   offered_decided : (s : State M) (sender : Option ℕ) (m : Message) (bytes words : List ℕ) (offers : List Entry) → IsState s → AreOwnedSlots s.registrations sender words → Valid bytes m → EndInOneWay → AreOffered s.registrations.entries (texts_of m) offers → AreDecided s sender m bytes words offers
   offered_decided s sender m bytes words offers is owned valid one_way are = record {
     connected = λ e there. all_at (λ (x : Entry). is_connected x.connection s.connections) e s.registrations.entries is.of_connections ((are.exact e).0 there).0;
-    decided = λ e there fits answer answered. filter_decided s.registrations sender words owned bytes m valid one_way e.filter answer (all_at (has_own_slot s.registrations.slots) e s.registrations.entries is.registrations.own_slots ((are.exact e).0 there).0) ((are.exact e).0 there).1.0 (fits m valid) answered;
+    decided = λ e there fits answer answered. filter_decided s.registrations sender words owned bytes m valid one_way e.filter answer (all_at (has_own_slot s.registrations.slots) e s.registrations.entries is.registrations.own_slots ((are.exact e).0 there).0) ((are.exact e).0 there).1 (fits m valid) answered;
   }
 
   pub recipients_marked : (s : State M) (sender : Option ℕ) (m : Message) (bytes words : List ℕ) (part of : ℕ) (offers : List Entry) (marks : List Bool) → IsState s → AreOwnedSlots s.registrations sender words → Valid bytes m → EndInOneWay → OfferedWhereItHolds → AreOffered s.registrations.entries (texts_of m) offers → (AreDecided s sender m bytes words offers → AreMarked s sender m part of offers marks) → AreMarkedRecipients s sender m part of marks

@@ -25,7 +25,7 @@ use Rattle.fan_out.proofs.Places.{contains_here, contains_later, contains_cases,
 
 matches_offered : (r : Registrations) (sender : Option ℕ) (m : Message) (filter : Filter) → OfferedWhereItHolds → FilterMatches r sender m filter → AreFound (texts_fixed filter) (texts_of m) × AreInside (namespaces_fixed filter) (texts_of m)
 matches_offered r sender m (Rule compiled) law matches = law compiled.rule m _ matches
-matches_offered r sender m (Attached attached) law matches = (record { member = tt; interface = tt; path = tt; sender = tt; arg0 = tt }, record { path = tt; arg0 = tt })
+matches_offered r sender m (Attached attached) law matches = matches.0
 
 module _ {M : Type 0} where
   pub among_offered : (s : State M) (sender : Option ℕ) (m : Message) (offers : List Entry) (n : ℕ) → OfferedWhereItHolds → AreOffered s.registrations.entries (texts_of m) offers → (MatchesAmong s sender m offers n ↔ IsRecipient s sender m n)

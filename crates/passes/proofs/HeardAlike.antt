@@ -27,8 +27,8 @@ nobody_asked r t = fun_ext (λ name. refl)
 
 matches_alike : (r t : Registrations) (m : Message) (f : Filter) → FilterMatches r None m f → FilterMatches t None m f
 matches_alike r t m (Rule compiled) h = let P : (List ℕ → Bool) → Type 0 = λ owned. Holds compiled.rule m owned in subst P (nobody_asked r t) h
-matches_alike r t m (Attached attachment) (words, verdict, steps, owned, some, ends) =
-    (words, verdict, steps, record { set = owned.set; owned = λ slot. owned.owned slot ∙ (none_owned r (slice_get r.slots slot) ∙ sym (none_owned t (slice_get t.slots slot))) }, some, ends)
+matches_alike r t m (Attached attachment) (meant, words, verdict, steps, owned, some, ends) =
+    (meant, words, verdict, steps, record { set = owned.set; owned = λ slot. owned.owned slot ∙ (none_owned r (slice_get r.slots slot) ∙ sym (none_owned t (slice_get t.slots slot))) }, some, ends)
 
 entries_of_claim : (c : ℕ) (name : Option (List ℕ)) (r : Registrations) → (without_claim c name r).entries ≡ r.entries
 entries_of_claim c None r = refl

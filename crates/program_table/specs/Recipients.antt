@@ -8,6 +8,7 @@ use Rattle.match_rule.specs.Holds.{Holds}
 use Rattle.summary.specs.ImageBytes.{image_bytes}
 use Rattle.summary.specs.Sets.{has_slot, IsSet}
 use Rattle.owners.specs.Queues.{owner_of}
+use Rattle.entry_table.specs.OfferedEntries.{IsFor}
 use Rattle.entry_table.specs.declared.entry.Entry.{Entry}
 use Rattle.entry_table.specs.declared.entry.Filter.{Filter}
 use Rattle.entry_table.specs.declared.entry.Filter.TheVariants.{Rule, Attached}
@@ -28,11 +29,12 @@ pub record AreOwnedSlots (r : Registrations) (sender : Option ℕ) (words : List
   pub set : IsSet words
   pub owned : (slot : ℕ) → has_slot words slot ≡ is_owned_at r sender (slice_get r.slots slot)
 
--- a rule holds of the message, or a program's verdict on the message's image isn't 0
+-- a rule holds of the message, or the message is one that a program is for, and the program's verdict on its image isn't 0
 abbrev pub FilterMatches : Registrations → Option ℕ → Message → Filter → Type 0
 FilterMatches r sender m (Rule compiled) = Holds compiled.rule m (is_owned r sender)
 FilterMatches r sender m (Attached attachment) =
-    (words : List ℕ) × (verdict : ℕ) × (steps : ℕ)
+    IsFor attachment.asked m
+    × (words : List ℕ) × (verdict : ℕ) × (steps : ℕ)
     × AreOwnedSlots r sender words
     × (0 < verdict)
     × Ends attachment.program (image_bytes attachment.edition m words) verdict steps
