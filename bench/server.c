@@ -88,6 +88,11 @@ static void measure_windows(const char *object, const char *member, const char *
     measure(window, 8);
 }
 
+/* How the clients ask for messages: by a rule, or by a filter of our bus. */
+static void (*ask_for)(struct client *, const char *) = add;
+
+static void add_filter(struct client *c, const char *filter) { call(c, bus_call("org.example.ProgramBus1", "AttachFilter", filter)); }
+
 /* Has some clients join, each with as many rules, the k-th of all by the k-th of the texts in turn. */
 static void join_many(int count, int each, const char *const *rules, int texts) {
     char text[256];
@@ -95,7 +100,7 @@ static void join_many(int count, int each, const char *const *rules, int texts) 
         join(&clients[i]);
         for (int k = (i - 1) * each; k < i * each; k++) {
             snprintf(text, sizeof text, rules[k % texts], k);
-            add(&clients[i], text);
+            ask_for(&clients[i], text);
         }
     }
 }
@@ -124,6 +129,13 @@ static void by_arg0(void) {
 
 static void by_arg0namespace(void) {
     one_of_250("member='changed',arg0namespace='com.example.n%d'", "/a", "changed", "com.example.n500.more");
+}
+
+static void by_member_and_arg0(void) { one_of_250("member='m%1$d',arg0='n%1$d'", "/a", "m500", "n500"); }
+
+static void by_filter(void) {
+    ask_for = add_filter;
+    one_of_250("member = m%1$d and arg0 = n%1$d", "/a", "m500", "n500");
 }
 
 static void by_path(void) { one_of_250("path='/com/example/n%d'", "/com/example/n500", "m", "text"); }
@@ -413,7 +425,7 @@ static const struct mode {
     {"path_namespace", by_path_namespace}, {"interface", by_interface}, {"sender", by_sender}, {"mixed", by_mixed_keys},
     {"many", of_16000}, {"crowd", of_a_crowd}, {"all", all_of_100}, {"nobody", nobody_listens}, {"burst", bursts}, {"late", latency},
     {"rules", rules}, {"names", names}, {"owner", owner}, {"owners", owners_beside_changes}, {"comings", comings},
-    {"pairs", pairs},
+    {"both", by_member_and_arg0}, {"filters", by_filter}, {"pairs", pairs},
 };
 
 int main(int words, char **word) {

@@ -10,6 +10,7 @@ use Rattle.match_rule.specs.Grammar.{ReadsAs}
 use Rattle.match_rule.specs.Reading.{rule_at}
 use Rattle.match_rule.specs.RuleTree.{RuleTree, sender_name_of, weight_of}
 use Rattle.summary.specs.declared.edition.Edition.{Edition}
+use Rattle.entry_table.specs.AttachedProgram.{AskedTexts}
 use Rattle.entry_table.specs.CompiledRule.{CompiledRule, IsFit}
 use Rattle.program_table.specs.declared.command.Command.TheVariants.{AddRule, RemoveRule, Attach}
 use Rattle.program_table.specs.declared.command.Reply.{Reply}
@@ -83,7 +84,7 @@ module _ {M : Type 0} where
     pub same : w ≡ v
     pub published : next ≡ before
 
-  -- a well-formed program is to be attached
-  abbrev pub Attaches : Edition → List Ins → PassState M → Publication M → Result Reply BusError → PassState M → Publication M → Type 0
-  Attaches edition program v before result w next =
-      (WellFormed program × Answers false v before (Attach v.connection (record { edition = edition; program = program })) result w next) ⊎ IsUntaken program v before result w next
+  -- a well-formed program is to be attached, for the messages with these texts
+  abbrev pub Attaches : Edition → List Ins → AskedTexts → PassState M → Publication M → Result Reply BusError → PassState M → Publication M → Type 0
+  Attaches edition program messages v before result w next =
+      (WellFormed program × Answers false v before (Attach v.connection (record { edition = edition; program = program; asked = messages })) result w next) ⊎ IsUntaken program v before result w next

@@ -37,7 +37,7 @@ pub use standing::Standing;
 pub use unicasts::Sent;
 
 // Passed on from the crates below, so that the crates above need not name those in crates.txt.
-pub use entry_table::IndexKey;
+pub use entry_table::{AskedTexts, IndexKey};
 pub use fan_out::MAX_RECIPIENTS;
 pub use program_table::{Capacity, Command, Refusal, Reply};
 pub use published::{BusBrand, HistoryPrefix, Opened, Published, Shown, StateReader};

@@ -11,7 +11,7 @@ use crate::error::BusError;
 use crate::pass::Pass;
 use bpf_code::Ins;
 use bpf_verify::verify;
-use entry_table::{Attachment, RuleProgram};
+use entry_table::{AskedTexts, Attachment, RuleProgram};
 use match_rule::Rule;
 use program_table::{Command, Reply};
 use published::BusBrand;
@@ -93,21 +93,22 @@ impl<B: BusBrand, M: Mailbox, R: Wait + Drop> Control<B, M, R> {
         }
     }
 
-    /// Attaches a program that reads images of this edition.
+    /// Attaches a program that reads images of this edition, of the messages with these texts.
     pub fn attach(
         &mut self,
         alloc: Global,
         pass: &mut Pass<B, M>,
         edition: Edition,
         program: Vec<Ins>,
+        asked: AskedTexts,
     ) -> Result<Reply, BusError>
-        ensures { Attaches edition program.items pass.old self.old result pass.new self.new }
+        ensures { Attaches edition program.items asked pass.old self.old result pass.new self.new }
     {
         let program = match verify(program) {
             Ok(program) => program,
             Err((fault, _)) => return Err(BusError::Program(fault)),
         };
-        match Attachment::new(alloc, edition, program) {
+        match Attachment::new(alloc, edition, program, asked) {
             Ok(attachment) => {
                 let connection = pass.connection();
                 self.command(pass, Command::Attach(connection, attachment))

@@ -7,6 +7,7 @@ mod OwnerChanging
 mod Calling
 mod Rows
 mod Sharing
+mod Asking
 mod Attaching
 mod Lists
 mod Departing

@@ -1,8 +1,11 @@
 -- Programs that clients attach (own).
-use Rattle.std.specs.Prelude.{ℕ, ◌≡◌, ◌⊎◌, ◌<◌, List, [], ◌∷◌, length, Option, Some, None, Result, Err}
+use Rattle.std.specs.Prelude.{ℕ, ◌≡◌, ◌⊎◌, ◌<◌, Bool, List, [], ◌∷◌, length, Option, Some, None, Result, Err}
 use Rattle.bpf_code.specs.declared.instruction.Ins.{Ins}
 use Rattle.bpf_code.specs.Program.{WellFormed}
+use Rattle.message_view.specs.Message.{Message}
 use Rattle.message_build.specs.Asked.{Asked}
+use Rattle.entry_table.specs.AttachedProgram.{AskedTexts}
+use Rattle.entry_table.specs.OfferedEntries.{IsFor}
 use Rattle.filter.specs.Errors.{fault_text}
 use Rattle.filter.specs.FilterTree.{FilterTree}
 use Rattle.filter.specs.Grammar.{ReadsAs}
@@ -10,6 +13,7 @@ use Rattle.filter.specs.Reading.{filter_at}
 use Rattle.filter.specs.Weights.{weight_of}
 use Rattle.filter.specs.declared.error.FaultAt.{FaultAt}
 use Rattle.filter_compile.specs.Compiled.{IsCompiled}
+use Rattle.filter_compile.specs.Holds.{FilterHolds}
 use Rattle.filter_compile.specs.Names.{names_of}
 use Rattle.summary.specs.declared.edition.Edition.{Edition}
 use Rattle.summary.specs.declared.edition.Edition.TheVariants.{Two}
@@ -39,6 +43,10 @@ bad_filter_with serial to request fault = bad_filter_asked serial (Some to) requ
 abbrev pub IsProgramOf : FilterTree → List Ins → Type 0
 IsProgramOf filter program = WellFormed program × IsCompiled filter program
 
+-- each message of which the filter holds has these texts
+abbrev pub AsksFor : FilterTree → AskedTexts → Type 0
+AsksFor filter messages = (m : Message) (owned : List ℕ → Bool) → FilterHolds filter m owned → IsFor messages m
+
 -- why a filter has no program: only one above this weight may be too heavy
 abbrev pub IsRefusedFor : FilterTree → Refused → Type 0
 IsRefusedFor filter why = ((why ≡ beyond FilterWeight) × (4096 < weight_of filter)) ⊎ (why ≡ Error NoMemory)
@@ -49,23 +57,24 @@ IsFirst names None = names ≡ []
 IsFirst names (Some name) = (others : List (List ℕ)) × (names ≡ name ∷ others)
 
 module _ {M : Type 0} where
-  -- A program of this length is to be attached, if the shares of the client and of all clients have room for it: the client
-  -- is told its entry's id.
-  abbrev pub AttachesProgram : Shares → Request → Edition → ℕ → List Ins → PeerState M → Result (Unit {0}) AnswerError → PeerState M → Type 0
-  AttachesProgram shares request edition len program v result w =
+  -- A program of this length is to be attached, for the messages with these texts, if the shares of the client and of all
+  -- clients have room for it: the client is told its entry's id.
+  abbrev pub AttachesProgram : Shares → Request → Edition → ℕ → List Ins → AskedTexts → PeerState M → Result (Unit {0}) AnswerError → PeerState M → Type 0
+  AttachesProgram shares request edition len program messages v result w =
       WithinShare (program_limit shares len v.holdings) request
-      (WithinMemory request (WithinAll request (NumbersEntry request (λ asked pass. Once (λ before next. Attaches edition program v.pass before asked pass next)) (after_attach len) v result w) v result w) v result w) v result w
+      (WithinMemory request (WithinAll request (NumbersEntry request (λ asked pass. Once (λ before next. Attaches edition program messages v.pass before asked pass next)) (after_attach len) v result w) v result w) v result w) v result w
 
   -- the call is answered with the error BadFilter
   abbrev pub IsBadFilter : Request → List ℕ → PeerState M → Result (Unit {0}) AnswerError → PeerState M → Type 0
   IsBadFilter request fault v result w = IsAnswered request (bad_filter_with v.serial (name_of v) request fault) v result w
 
-  -- A filter is too heavy; or it asks who owns a name; or its program is attached, which needs to know of no owner.
+  -- A filter is too heavy; or it asks who owns a name; or its program is attached, which needs to know of no owner, for the
+  -- messages with some texts that it asks for.
   abbrev pub AttachesTree : Shares → Request → FilterTree → PeerState M → Result (Unit {0}) AnswerError → PeerState M → Type 0
   AttachesTree shares request filter v result w =
       ((4096 < weight_of filter) × IsRefused request (beyond FilterWeight) v result w)
       ⊎ (((name : List ℕ) × (others : List (List ℕ)) × (names_of filter ≡ name ∷ others) × IsBadFilter request (sender_name_text name) v result w)
-      ⊎ ((program : List Ins) × (names_of filter ≡ []) × IsProgramOf filter program × AttachesProgram shares request Two (length program) program v result w))
+      ⊎ ((program : List Ins) × (messages : AskedTexts) × (names_of filter ≡ []) × IsProgramOf filter program × AsksFor filter messages × AttachesProgram shares request Two (length program) program messages v result w))
 
   -- AttachFilter: the text reads as a filter whose program is attached, or it is answered with its first fault.
   abbrev pub AttachesFilter : Shares → Request → List ℕ → PeerState M → Result (Unit {0}) AnswerError → PeerState M → Type 0

@@ -13,6 +13,7 @@ pub mod Asked
 pub mod Broadcasts
 pub mod Passing
 pub mod Rows
+pub mod AskedTexts
 pub mod Attachments
 pub mod Queries
 pub mod Queues

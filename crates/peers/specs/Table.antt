@@ -1,6 +1,7 @@
 -- The table of the methods of the bus: what each call does, and is answered (D-Bus Specification, "Message Bus Messages").
 use Rattle.std.specs.Prelude.{ℕ, false, [], ◌∷◌, Result, Ok, Err, vec_len}
 use Rattle.signature.specs.Name.{bus_name}
+use Rattle.entry_table.specs.AttachedProgram.{nothing_asked}
 use Rattle.outbox.specs.Seated.{OutboxId}
 use Rattle.bus_messages.specs.declared.body.Body.TheVariants as bodies
 use Rattle.bus_messages.specs.declared.call.Call.{Call}
@@ -35,7 +36,7 @@ module _ {M : Type 0} where
   Performs outbox_of shares request (calls.AddMatch text) v result w =
       WithinShare (rule_limit shares v.holdings) request (IsConfirmed request (λ asked pass. Once (λ before next. AddsMatch text.now v.pass before asked pass next)) after_add v result w) v result w
   Performs outbox_of shares request (calls.RemoveMatch text) v result w = IsConfirmed request (λ asked pass. Once (λ before next. RemovesMatch text.now v.pass before asked pass next)) after_remove v result w
-  Performs outbox_of shares request (calls.Attach edition program) v result w = AttachesProgram shares request edition (vec_len program) program.items v result w
+  Performs outbox_of shares request (calls.Attach edition program) v result w = AttachesProgram shares request edition (vec_len program) program.items nothing_asked v result w
   Performs outbox_of shares request (calls.AttachFilter text) v result w = AttachesFilter shares request text.now v result w
   Performs outbox_of shares request (calls.Detach id) v result w = IsConfirmed request (λ asked pass. Once (λ before next. Answers false v.pass before (Detach v.pass.connection id) asked pass next)) (after_detach id) v result w
   Performs outbox_of shares request (calls.RequestName name flags) v result w = RequestsName outbox_of shares request name.now flags v result w

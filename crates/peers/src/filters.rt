@@ -10,6 +10,7 @@ ghost use Rattle.peers.specs.PeerState.{name_of};
 ghost use Rattle.peers.specs.Shares.{WithinMemory};
 
 use crate::answers::error_bytes;
+use crate::asked_texts::asked_by;
 use crate::context::Context;
 use crate::error::AnswerError;
 use crate::peer::Peer;
@@ -63,8 +64,11 @@ impl<B: BusBrand, M: Mailbox> Peer<B, M> {
             Ok(program) => program,
             Err(why) => return self.refuse(context, request, why),
         };
+        let Ok(asked) = asked_by(context.alloc, filter) else {
+            return self.refuse(context, request, Refused::Error(ErrorName::NoMemory));
+        };
         match first_name(context.alloc, filter) {
-            Ok(None) => self.attach(context, request, Edition::Two, program),
+            Ok(None) => self.attach(context, request, Edition::Two, program, asked),
             Ok(Some(name)) => self.refuse_filter(context, request, FilterFault::SenderName(name)),
             Err(_) => self.refuse(context, request, Refused::Error(ErrorName::NoMemory)),
         }

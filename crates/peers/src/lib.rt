@@ -10,6 +10,7 @@
 mod all_instructions;
 mod announcements;
 mod answers;
+mod asked_texts;
 mod calls;
 mod context;
 mod dispatch;
@@ -51,6 +52,6 @@ pub use shares::Shares;
 
 // Passed on from the crates below, so that the crates above need not name those in crates.txt.
 pub use router::{
-    Bus, BusBrand, BusError, Capacity, Command, Control, IndexKey, Mailbox, Opened, Pass,
+    AskedTexts, Bus, BusBrand, BusError, Capacity, Command, Control, IndexKey, Mailbox, Opened, Pass,
     PlainMailbox, Published, RouteLists, Shown, StateReader,
 };

@@ -16,7 +16,7 @@ use crate::refused::Refused;
 use crate::request::Request;
 use bpf_code::Ins;
 use bus_messages::Body;
-use router::{BusBrand, BusError, Mailbox, Reply};
+use router::{AskedTexts, BusBrand, BusError, Mailbox, Reply};
 use std::sync::Wait;
 use summary::Edition;
 
@@ -90,8 +90,9 @@ impl<B: BusBrand, M: Mailbox> Peer<B, M> {
         request: Request,
         edition: Edition,
         program: Vec<Ins>,
+        asked: AskedTexts,
     ) -> Result<(), AnswerError>
-        ensures row { WithinShare (program_limit context.now.shares (vec_len program) self.old.holdings) request (WithinMemory request (WithinAll request (NumbersEntry request (λ asked pass. Once (λ before next. Attaches edition program.items self.old.pass before asked pass next)) (after_attach (vec_len program)) self.old result self.new) self.old result self.new) self.old result self.new) self.old result self.new }
+        ensures row { WithinShare (program_limit context.now.shares (vec_len program) self.old.holdings) request (WithinMemory request (WithinAll request (NumbersEntry request (λ reply pass. Once (λ before next. Attaches edition program.items asked self.old.pass before reply pass next)) (after_attach (vec_len program)) self.old result self.new) self.old result self.new) self.old result self.new) self.old result self.new }
         ensures error { UnlessShut request.wants_answer result self.new }
     {
         let len = program.len();
@@ -99,7 +100,14 @@ impl<B: BusBrand, M: Mailbox> Peer<B, M> {
             return self.refuse(context, request, why);
         }
         let bus = context.bus;
-        let attached = bus.attach(context.rt, context.alloc, &mut self.pass, edition, program);
+        let attached = bus.attach(
+            context.rt,
+            context.alloc,
+            &mut self.pass,
+            edition,
+            program,
+            asked,
+        );
         self.holdings.note_attach(len, &attached);
         self.answer_entry(context, request, attached)
     }

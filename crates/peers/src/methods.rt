@@ -13,7 +13,7 @@ use crate::peer::Peer;
 use crate::refused::Refused;
 use crate::request::Request;
 use bus_messages::{Body, Call, ErrorName, introspection};
-use router::{BusBrand, Mailbox, RouteLists};
+use router::{AskedTexts, BusBrand, Mailbox, RouteLists};
 use std::sync::Wait;
 
 /// What StartServiceByName answers of a name that has an owner (D-Bus Specification, DBUS_START_REPLY_ALREADY_RUNNING).
@@ -39,7 +39,7 @@ impl<B: BusBrand, M: Mailbox> Peer<B, M> {
             Call::Hello => self.refuse(context, request, Refused::Error(ErrorName::Failed)),
             Call::AddMatch(text) => self.add_match(context, request, text),
             Call::RemoveMatch(text) => self.remove_match(context, request, text),
-            Call::Attach(edition, program) => self.attach(context, request, edition, program),
+            Call::Attach(edition, program) => self.attach(context, request, edition, program, AskedTexts::none()),
             Call::AttachFilter(text) => self.attach_filter(context, request, text),
             Call::Detach(id) => self.detach(context, request, id),
             Call::RequestName(name, flags) => self.request_name(

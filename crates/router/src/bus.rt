@@ -14,7 +14,7 @@ use open_calls::{OpenCall, OpenCalls, Shards};
 use outbox::{Tally, Turn};
 use owners::WellKnown;
 use passes::{
-    BusBrand, BusError, Capacity, Control, HistoryPrefix, IndexKey, KeptPasses, Mailbox, Opened,
+    AskedTexts, BusBrand, BusError, Capacity, Control, HistoryPrefix, IndexKey, KeptPasses, Mailbox, Opened,
     Pass, Reply, StateReader,
 };
 use std::alloc::Global;
@@ -221,7 +221,7 @@ impl<B: BusBrand, M: Mailbox, R: Wait + Drop> Bus<B, M, R> {
         self.control(rt).remove_match(alloc, pass, text)
     }
 
-    /// Attaches a program that reads images of this edition.
+    /// Attaches a program that reads images of this edition, of the messages with these texts.
     pub fn attach(
         &self,
         rt: &impl Wait,
@@ -229,11 +229,12 @@ impl<B: BusBrand, M: Mailbox, R: Wait + Drop> Bus<B, M, R> {
         pass: &mut Pass<B, M>,
         edition: Edition,
         program: Vec<Ins>,
+        asked: AskedTexts,
     ) -> Result<Reply, BusError>
-        ensures answer { Once (λ before next. Attaches edition program.items pass.old before result pass.new next) }
+        ensures answer { Once (λ before next. Attaches edition program.items asked pass.old before result pass.new next) }
         ensures connection { pass.new.connection ≡ pass.old.connection }
     {
-        self.control(rt).attach(alloc, pass, edition, program)
+        self.control(rt).attach(alloc, pass, edition, program, asked)
     }
 
     /// Asks for a name (RequestName).

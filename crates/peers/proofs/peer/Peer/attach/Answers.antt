@@ -15,7 +15,7 @@ use Rattle.peers.proofs.peer.Peer.attach.Goals as goal
 
 pub returns-clause-row : goal.returns-clause-row
 returns-clause-row g c =
-    let P : PassState g.row.M.Denot → Result Reply BusError → PassState g.row.M.Denot → Type 0 = λ p asked pass. Once (λ before next. Attaches c.args.edition c.args.program.items p before asked pass next) in
+    let P : PassState g.row.M.Denot → Result Reply BusError → PassState g.row.M.Denot → Type 0 = λ p asked pass. Once (λ before next. Attaches c.args.edition c.args.program.items c.args.asked p before asked pass next) in
     let v : PeerState g.row.M.Denot = c.args.self.now in
     let len = c.len-len.ensures in
     let change : ℕ → Result Reply BusError → HoldingsState → HoldingsState = after_attach in
