@@ -3,7 +3,7 @@
 use crate::names::name_of;
 use crate::unanswered::Unanswered;
 use bpf_code::decode;
-use router::{Bus, BusBrand, Pass, PlainMailbox, Reply};
+use router::{AskedTexts, Bus, BusBrand, Pass, PlainMailbox, Reply};
 use std::alloc::Global;
 use std::sync::Wait;
 use summary::Edition;
@@ -43,7 +43,7 @@ fn attach<B: BusBrand, R: Wait>(
     bytes: &[u8],
 ) -> Result<Reply, Unanswered> {
     match decode(alloc, bytes) {
-        Ok(program) => Ok(bus.attach(rt, alloc, pass, edition, program)?),
+        Ok(program) => Ok(bus.attach(rt, alloc, pass, edition, program, AskedTexts::none())?),
         // Lists have whole instructions, so that memory alone can be refused here.
         Err(_) => Err(Unanswered::NoMemory),
     }

@@ -7,7 +7,7 @@ use crate::names::name_of;
 use crate::unanswered::Unanswered;
 use bpf_code::decode;
 use bpf_verify::{Verified, VerifyError, verify};
-use entry_table::{Attachment, RuleProgram};
+use entry_table::{AskedTexts, Attachment, RuleProgram};
 use match_rule::{Rule, RuleError};
 use owners::MAX_NAMES;
 use program_table::{Command, Refusal, Reply};
@@ -85,7 +85,8 @@ fn command_of(
             program,
         } => {
             let program = program_of(alloc, program.as_slice())?;
-            Ok(Command::Attach(*connection, Attachment::new(alloc, *edition, program)?))
+            let attachment = Attachment::new(alloc, *edition, program, AskedTexts::none())?;
+            Ok(Command::Attach(*connection, attachment))
         }
         TextEvent::Detach { connection, entry } => Ok(Command::Detach(*connection, *entry)),
         TextEvent::Request {
@@ -165,7 +166,7 @@ fn entry_refusal(
     connection: u64,
 ) -> Result<Option<Refusal>, Unanswered> {
     let program = program_of(alloc, &[6, 0, 0, 0, 0, 0, 0, 0])?;
-    let attachment = Attachment::new(alloc, Edition::Two, program)?;
+    let attachment = Attachment::new(alloc, Edition::Two, program, AskedTexts::none())?;
     match world.answer(&Command::Attach(connection, attachment)) {
         Reply::Refused(refusal) => Ok(Some(refusal)),
         _ => Ok(None),

@@ -59,13 +59,16 @@ module _ (m : Message) (owned : List ℕ → Bool) where
     where
       go : (b : Bool) → eqb (number_of_arg n) 0 ≡ b → IsFor (cond b (record asked { texts = record asked.texts { arg0 = Some text } }) asked) m
       go false e = kept
-      go true e = (record {
-        member = kept.0.member;
-        interface = kept.0.interface;
-        path = kept.0.path;
-        sender = kept.0.sender;
-        arg0 = sym (string_is (arg 0)) ∙ ap (λ (k : ℕ). text_of_code 115 (arg k)) (sym (eqb-true (number_of_arg n) 0 e)) ∙ equal_is (text_of_code 115 (arg (number_of_arg n))) text h;
-      }, kept.1)
+      go true e = (
+        record {
+          member = kept.0.member;
+          interface = kept.0.interface;
+          path = kept.0.path;
+          sender = kept.0.sender;
+          arg0 = sym (string_is (arg 0)) ∙ ap (λ (k : ℕ). text_of_code 115 (arg k)) (sym (eqb-true (number_of_arg n) 0 e)) ∙ equal_is (text_of_code 115 (arg (number_of_arg n))) text h;
+        },
+        kept.1,
+      )
 
   scope_kept : (scope : Scope) (text : List ℕ) (asked : AskedTexts) → IsSomeAnd (scope_text scope m) (λ found. IsWithin scope found text) → IsFor asked m → IsFor (with_scope scope text asked) m
   scope_kept PathNamespace text asked h kept = (kept.0, record { path = h; arg0 = kept.1.arg0 })
@@ -74,10 +77,13 @@ module _ (m : Message) (owned : List ℕ → Bool) where
     where
       go : (b : Bool) → eqb (number_of_arg n) 0 ≡ b → IsFor (cond b (record asked { namespaces = record asked.namespaces { arg0 = Some text } }) asked) m
       go false e = kept
-      go true e = (kept.0, record {
-        path = kept.1.path;
-        arg0 = subst (λ (o : Option (List ℕ)). IsSomeAnd o (λ found. InNamespace found text)) (ap (λ (k : ℕ). compared_text NameNamespace (arg k)) (eqb-true (number_of_arg n) 0 e) ∙ name_is (arg 0)) h;
-      })
+      go true e = (
+        kept.0,
+        record {
+          path = kept.1.path;
+          arg0 = subst (λ (o : Option (List ℕ)). IsSomeAnd o (λ found. InNamespace found text)) (ap (λ (k : ℕ). compared_text NameNamespace (arg k)) (eqb-true (number_of_arg n) 0 e) ∙ name_is (arg 0)) h;
+        },
+      )
 
   test_kept : (t : Test) (asked : AskedTexts) → TestHolds t m owned → IsFor asked m → IsFor (with_test t asked) m
   test_kept (tests.Text source relations.Equal text) asked h kept = text_kept source text asked h kept

@@ -22,11 +22,7 @@ pub(crate) fn asked_by(alloc: Global, filter: &Filter) -> Result<AskedTexts, All
     Ok(asked)
 }
 
-fn put_filters(
-    alloc: Global,
-    asked: &mut AskedTexts,
-    filters: &[Filter],
-) -> Result<(), AllocError>
+fn put_filters(alloc: Global, asked: &mut AskedTexts, filters: &[Filter]) -> Result<(), AllocError>
     ensures { IfOk result (λ _. asked.new ≡ with_filters (list_of (map tree_of filters.now)) asked.old) }
 {
     for filter in filters {

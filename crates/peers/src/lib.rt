@@ -52,6 +52,6 @@ pub use shares::Shares;
 
 // Passed on from the crates below, so that the crates above need not name those in crates.txt.
 pub use router::{
-    AskedTexts, Bus, BusBrand, BusError, Capacity, Command, Control, IndexKey, Mailbox, Opened, Pass,
-    PlainMailbox, Published, RouteLists, Shown, StateReader,
+    AskedTexts, Bus, BusBrand, BusError, Capacity, Command, Control, IndexKey, Mailbox, Opened,
+    Pass, PlainMailbox, Published, RouteLists, Shown, StateReader,
 };

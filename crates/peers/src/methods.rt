@@ -39,7 +39,13 @@ impl<B: BusBrand, M: Mailbox> Peer<B, M> {
             Call::Hello => self.refuse(context, request, Refused::Error(ErrorName::Failed)),
             Call::AddMatch(text) => self.add_match(context, request, text),
             Call::RemoveMatch(text) => self.remove_match(context, request, text),
-            Call::Attach(edition, program) => self.attach(context, request, edition, program, AskedTexts::none()),
+            Call::Attach(edition, program) => self.attach(
+                context,
+                request,
+                edition,
+                program,
+                AskedTexts::none(),
+            ),
             Call::AttachFilter(text) => self.attach_filter(context, request, text),
             Call::Detach(id) => self.detach(context, request, id),
             Call::RequestName(name, flags) => self.request_name(

@@ -14,8 +14,8 @@ use open_calls::{OpenCall, OpenCalls, Shards};
 use outbox::{Tally, Turn};
 use owners::WellKnown;
 use passes::{
-    AskedTexts, BusBrand, BusError, Capacity, Control, HistoryPrefix, IndexKey, KeptPasses, Mailbox, Opened,
-    Pass, Reply, StateReader,
+    AskedTexts, BusBrand, BusError, Capacity, Control, HistoryPrefix, IndexKey, KeptPasses,
+    Mailbox, Opened, Pass, Reply, StateReader,
 };
 use std::alloc::Global;
 use std::sync::{Mutex, MutexGuard, Wait};
@@ -234,7 +234,8 @@ impl<B: BusBrand, M: Mailbox, R: Wait + Drop> Bus<B, M, R> {
         ensures answer { Once (λ before next. Attaches edition program.items asked pass.old before result pass.new next) }
         ensures connection { pass.new.connection ≡ pass.old.connection }
     {
-        self.control(rt).attach(alloc, pass, edition, program, asked)
+        self.control(rt)
+            .attach(alloc, pass, edition, program, asked)
     }
 
     /// Asks for a name (RequestName).

@@ -18,6 +18,6 @@ pub use routing::OpenGate;
 
 // Passed on from the crates below, so that the crates above need not name those in crates.txt.
 pub use passes::{
-    AskedTexts, BusBrand, Capacity, Command, IndexKey, Mailbox, Opened, Published, Refusal, Reply, Shown,
-    StateReader,
+    AskedTexts, BusBrand, Capacity, Command, IndexKey, Mailbox, Opened, Published, Refusal, Reply,
+    Shown, StateReader,
 };

@@ -4,7 +4,7 @@ use crate::fixture::{KEY, S1};
 use crate::state::{compile, read_message};
 use bpf_code::Ins;
 use bpf_verify::{Verified, verify};
-use entry_table::{Attachment, Entry, EntryTable, Filter};
+use entry_table::{AskedTexts, Attachment, Entry, EntryTable, Filter};
 use match_rule::Rule;
 use std::alloc::Global;
 use std::mem::forget;
@@ -37,11 +37,26 @@ fn add<R: Abort>(rt: &R, alloc: Global, table: &mut EntryTable, connection: u64,
     let _ = table.add(connection, filter);
 }
 
-fn attach<R: Abort>(rt: &R, alloc: Global, table: &mut EntryTable) {
-    let attached = Attachment::new(alloc, Edition::One, one(rt, alloc));
+// The id of the new entry.
+fn attach<R: Abort>(rt: &R, alloc: Global, table: &mut EntryTable, asked: AskedTexts) -> u32 {
+    let attached = Attachment::new(alloc, Edition::One, one(rt, alloc), asked);
     let filter = Filter::Attached(attached.expect(rt, "an attachment"));
     assert!(rt; !table.is_full());
-    assert_eq!(rt; table.add(1, filter), 4);
+    table.add(1, filter)
+}
+
+// Messages with this member, to paths in the namespace.
+fn asked<R: Abort>(rt: &R, alloc: Global, member: &str, namespace: &str) -> AskedTexts {
+    let mut asked = AskedTexts::none();
+    asked.member = Some(text(rt, alloc, member));
+    asked.path_namespace = Some(text(rt, alloc, namespace));
+    asked
+}
+
+fn text<R: Abort>(rt: &R, alloc: Global, text: &str) -> String {
+    let mut copy = String::new(alloc);
+    copy.push_str(text).expect(rt, "memory");
+    copy
 }
 
 // The entries that S1 is offered to have these ids.
@@ -81,12 +96,26 @@ fn entries_of_two_connections(rt: HostRuntime) {
     add(&rt, alloc, &mut table, 1, "member='c'");
     add(&rt, alloc, &mut table, 2, "member='d'");
     add(&rt, alloc, &mut table, 2, "path='/a'");
-    attach(&rt, alloc, &mut table);
+    assert_eq!(rt; attach(&rt, alloc, &mut table, AskedTexts::none()), 4);
     expect_offered(&rt, alloc, &table, &[1, 3, 4]);
     expect_found(&rt, alloc, &table);
     remove(&rt, &mut table);
     expect_offered(&rt, alloc, &table, &[4]);
     assert_eq!(rt; table.last_id(), 4);
+    forget(table);
+}
+
+// S1 is a signal of the member c from /a.
+#[test]
+fn programs_for_some_messages(rt: HostRuntime) {
+    let alloc = rt.alloc();
+    let mut table = new_table(&rt, alloc);
+    for (member, namespace) in [("d", "/a"), ("c", "/a"), ("c", "/a/b"), ("c", "/")] {
+        let asked = asked(&rt, alloc, member, namespace);
+        let _ = attach(&rt, alloc, &mut table, asked);
+    }
+    let _ = attach(&rt, alloc, &mut table, AskedTexts::none());
+    expect_offered(&rt, alloc, &table, &[2, 4, 5]);
     forget(table);
 }
 

@@ -8,7 +8,7 @@ use bpf_code::Ins;
 use outbox::Turn;
 use program_table::Handle;
 use published::BusBrand;
-use router::{Bus, Pass, PlainMailbox, Sent, Source};
+use router::{AskedTexts, Bus, Pass, PlainMailbox, Sent, Source};
 use routing::Mailbox;
 use std::alloc::Global;
 use std::mem::forget;
@@ -67,7 +67,7 @@ pub(crate) fn attach_to_all<B: BusBrand, R: Wait + Abort>(
     pass: &mut Pass<B, PlainMailbox>,
 ) {
     let program = return_one(rt, alloc);
-    let attached = bus.attach(rt, alloc, pass, Edition::Two, program);
+    let attached = bus.attach(rt, alloc, pass, Edition::Two, program, AskedTexts::none());
     assert!(rt; attached.is_ok());
 }
 
