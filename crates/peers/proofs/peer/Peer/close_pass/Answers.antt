@@ -3,4 +3,4 @@ use Rattle.peers.proofs.peer.Peer.close_pass.Goals as goal
 
 pub returns : goal.returns
 returns g c =
-    closed g.M.Mailbox.outbox_of _ c.args.self.now c.announce_closed.new.self c.deref_mut-control.result.now c.close-closed.new.self c.close-closed.result c.close-closed.new.pass c.announce_closed.result c.self.view_is c.close-closed.ensures c.announce_closed.ensures
+    closed g.M.Mailbox.outbox_of _ c.args.self.now c.announce_closed.new.self c.deref_mut-control.result.now c.close-closed.new.self c.close-closed.result c.close-closed.new.pass c.announce_closed.result c.self.view_is c.close-closed.ensures.answer c.announce_closed.ensures
