@@ -7,7 +7,7 @@ ghost use Rattle.peers.specs.Answers.{SlowIfShut};
 ghost use Rattle.peers.specs.Handling.{names_bus};
 ghost use Rattle.router.specs.Passes.{new_pass};
 ghost use Rattle.sessions.specs.Hello.{is_hello, is_hello_member};
-ghost use Rattle.sessions.specs.Newcomers.{IsWelcome};
+ghost use Rattle.sessions.specs.Newcomers.{IsRegistered};
 
 use crate::client::Newcomer;
 use crate::error::SessionError;
@@ -32,7 +32,7 @@ pub(crate) fn greet<B: BusBrand, M: Mailbox, W: Wait, R: Wait + Drop>(
     mut newcomer: Newcomer<B, M>,
     view: &View<'_>,
 ) -> Result<(Peer<B, M>, Result<(), AnswerError>), (SessionError, Newcomer<B, M>)>
-    ensures peer { IfOk result (λ made. IsWelcome M.outbox_of view.now newcomer made.1 made.0) }
+    ensures peer { IfOk result (λ made. IsRegistered M.outbox_of view.now newcomer made.1 made.0) }
     ensures slow { IfOk result (λ made. SlowIfShut made.1 made.0) }
     ensures outbox { IfErr result (λ refused. refused.1 ≡ newcomer) }
 {
@@ -55,7 +55,7 @@ fn let_in<B: BusBrand, M: Mailbox, W: Wait, R: Wait + Drop>(
 ) -> Result<(Peer<B, M>, Result<(), AnswerError>), (SessionError, Newcomer<B, M>)>
     requires new { pass ≡ new_pass pass.seen }
     requires hello { (m : Message) → Valid view.now m → is_hello m ≡ true }
-    ensures peer { IfOk result (λ made. IsWelcome M.outbox_of view.now newcomer made.1 made.0) }
+    ensures peer { IfOk result (λ made. IsRegistered M.outbox_of view.now newcomer made.1 made.0) }
     ensures slow { IfOk result (λ made. SlowIfShut made.1 made.0) }
     ensures outbox { IfErr result (λ refused. refused.1 ≡ newcomer) }
 {
