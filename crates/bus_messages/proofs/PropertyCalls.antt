@@ -1,6 +1,6 @@
 -- What GetAll is read as, by the interface that it names.
-use Rattle.std.proofs.Common.{ℕ, ◌≡◌, ◌||◌, Bool, true, false, List, Option, Some, refl}
-use Rattle.std.specs.Prelude.{Result, Ok, Err, codes, if◌then◌else◌}
+use Rattle.std.proofs.Common.{ℕ, ◌≡◌, ◌||◌, Bool, true, false, List, Some, refl}
+use Rattle.std.specs.Prelude.{Ok, Err, codes, if◌then◌else◌}
 use Rattle.std.specs.Str.{bytes_eq}
 use Rattle.bus_messages.specs.declared.call.Call.TheVariants as calls
 use Rattle.bus_messages.specs.declared.call.CallError.TheVariants.{UnknownInterface}

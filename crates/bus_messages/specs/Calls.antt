@@ -1,5 +1,5 @@
 -- What the bus understands of a call (D-Bus Specification, "Message Bus Messages").
-use Rattle.std.specs.Prelude.{◌≡◌, ◌≢◌, ◌⊎◌, ℕ, Bool, true, false, List, Option, Some, None, Result, Ok, Err, cond, if◌then◌else◌}
+use Rattle.std.specs.Prelude.{◌≡◌, ◌≢◌, ◌⊎◌, ℕ, Bool, true, false, List, Option, Some, None, Result, Err, cond, if◌then◌else◌}
 use Rattle.signature.specs.DataType.{spellings}
 use Rattle.message_view.specs.Message.{Message, interface_of, member_of, path_of}
 use Rattle.message_view.specs.Spelling.{message_bytes, arguments_of}
