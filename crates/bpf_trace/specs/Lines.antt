@@ -54,7 +54,7 @@ read_text edition image _ ins x = []
 
 -- how wide the column of the instructions is
 abbrev pub column_width : ℕ
-column_width = 28
+column_width = 32
 
 abbrev pub line_of : Edition → List ℕ → State → Ins → Op → List ℕ
 line_of edition image s ins op =

@@ -14,7 +14,7 @@ use std::fmt::Write;
 use summary::{Edition, Image};
 
 /// How wide the column of the instructions is.
-const COLUMN: usize = 28;
+const COLUMN: usize = 32;
 
 /// Adds blanks.
 fn push_blanks(text: &mut String, count: usize) -> Result<(), AllocError>
