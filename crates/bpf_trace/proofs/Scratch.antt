@@ -1,5 +1,5 @@
 -- The scratch words of the code, as the definitions have them.
-use Rattle.std.proofs.Common.{◌≡◌, ◌≢◌, ℕ, zero, suc, ◌+◌, ◌<◌, ◌≤◌, Bool, true, false, eqb, List, [], ◌∷◌, ◌++◌, length, get_or, set, replicate, Option, Some, None, refl, sym, ap, ◌∙◌, arith, add-one}
+use Rattle.std.proofs.Common.{◌≡◌, ◌≢◌, ℕ, zero, suc, ◌+◌, ◌<◌, ◌≤◌, append_assoc, Bool, true, false, eqb, List, [], ◌∷◌, ◌++◌, length, get_or, set, replicate, Option, Some, None, refl, sym, ap, ◌∙◌, arith, add-one}
 use Rattle.std.proofs.lemmas.Bool.{eqb-true, eqb-false}
 use Rattle.std.proofs.lemmas.List.{get_or-set_same, get_or-set_other}
 use Rattle.bpf_code.specs.Steps.{State, start, with_word}
@@ -41,10 +41,17 @@ pub with_words : (place a x : ℕ) (words others : ℕ → Option ℕ) → words
 with_words place a x words others is = ap (λ (w : ℕ → Option ℕ). let s : State = record { place = place; a = a; x = x; words = w } in s) is
 
 -- the text of one word more
-pub one_text_more : (words : ℕ → Option ℕ) (n : ℕ) → scratch_texts words (n + 1) ≡ scratch_texts words n ++ scratch_text n (words n)
+one_text_more : (words : ℕ → Option ℕ) (n : ℕ) → scratch_texts words (n + 1) ≡ scratch_texts words n ++ scratch_text n (words n)
 unfolding scratch_texts
 one_text_more words n = rw add-one refl
 
 pub no_texts : (words : ℕ → Option ℕ) → scratch_texts words 0 ≡ []
 unfolding scratch_texts
 no_texts words = refl
+
+-- the text of one word more was added
+pub texts_more : (words : ℕ → Option ℕ) (k : ℕ) (word : Option ℕ) (start text new : List ℕ) → word ≡ words k → text ≡ start ++ scratch_texts words k → new ≡ text ++ scratch_text k word → new ≡ start ++ scratch_texts words (k + 1)
+texts_more words k word start text new is before adds =
+    adds ∙ ap (λ (w : Option ℕ). text ++ scratch_text k w) is ∙ ap (λ (t : List ℕ). t ++ scratch_text k (words k)) before
+    ∙ append_assoc start (scratch_texts words k) (scratch_text k (words k))
+    ∙ ap (λ (t : List ℕ). start ++ t) (sym (one_text_more words k))

@@ -42,12 +42,16 @@ argument_part part =
 abbrev pub argument_text : ℕ → List ℕ
 argument_text at = option_map_or (λ part. part ++ decimal (at / 12)) (argument_part (at % 12)) []
 
+-- a word of ownership bits, by its place among them
+abbrev pub owned_text : ℕ → List ℕ
+owned_text at = codes ", the ownership bits from slot " ++ decimal (at * 8) ++ codes " on"
+
 -- a word after those of the arguments: the serials, and words of ownership bits
 abbrev pub last_text : ℕ → List ℕ
 last_text at =
     if at == serial_place then codes ", SERIAL"
     else if at == reply_serial_place then codes ", REPLY_SERIAL"
-    else if at % 4 == 0 then codes ", the ownership bits from slot " ++ decimal ((at - ownership_place 0) * 8) ++ codes " on"
+    else if at % 4 == 0 then owned_text (at - ownership_place 0)
     else []
 
 -- a word of the summary
@@ -63,8 +67,12 @@ summary_text Word at = word_text at
 summary_text Half at = []
 summary_text Byte at = []
 
+-- a byte of the message
+abbrev pub byte_text : ℕ → List ℕ
+byte_text byte = codes ", at byte " ++ decimal byte ++ codes " of the message"
+
 -- what lies at a place that is read: a word of the summary, or a byte of the message
 abbrev pub place_text : Edition → Width → ℕ → List ℕ
 place_text edition width at =
     if nat_lt at (summary_len edition) then summary_text width at
-    else codes ", at byte " ++ decimal (at - summary_len edition) ++ codes " of the message"
+    else byte_text (at - summary_len edition)

@@ -1,7 +1,7 @@
 // What the words of an image are called.
 
-ghost use Rattle.std.specs.Prelude.{◌≡◌, ◌++◌, OnOk, option_map, string_bytes};
-ghost use Rattle.bpf_trace.specs.ImageWords.{fixed_word, argument_part, argument_text, last_text, word_text, place_text};
+ghost use Rattle.std.specs.Prelude.{◌≡◌, ◌<◌, ◌≤◌, ◌++◌, OnOk, option_map, string_bytes};
+ghost use Rattle.bpf_trace.specs.ImageWords.{fixed_word, argument_part, argument_text, owned_text, last_text, word_text, byte_text, place_text};
 
 use bpf_code::Width;
 use std::alloc::AllocError;
@@ -61,8 +61,19 @@ fn push_argument(text: &mut String, at: u64) -> Result<(), AllocError>
     }
 }
 
+/// Adds the name of a word of ownership bits, by its place among them.
+fn push_owned(text: &mut String, at: u64) -> Result<(), AllocError>
+    requires { at < 976 }
+    ensures { OnOk result (string_bytes text.new ≡ string_bytes text.old ++ owned_text at) }
+{
+    let slot = at * 8;
+    write!(text, ", the ownership bits from slot {slot} on")
+}
+
 /// Adds the name of a word after those of the arguments.
 fn push_last(text: &mut String, at: u64) -> Result<(), AllocError>
+    requires low { 840 ≤ at }
+    requires high { at < 976 }
     ensures { OnOk result (string_bytes text.new ≡ string_bytes text.old ++ last_text at) }
 {
     if at == 968 {
@@ -74,12 +85,12 @@ fn push_last(text: &mut String, at: u64) -> Result<(), AllocError>
     if at % 4 != 0 {
         return Ok(());
     }
-    let slot = at.saturating_sub(840) * 8;
-    write!(text, ", the ownership bits from slot {slot} on")
+    push_owned(text, at - 840)
 }
 
 /// Adds the name of the word at a place of the summary.
 fn push_word(text: &mut String, at: u64) -> Result<(), AllocError>
+    requires { at < 976 }
     ensures { OnOk result (string_bytes text.new ≡ string_bytes text.old ++ word_text at) }
 {
     if at < 72 {
@@ -94,6 +105,13 @@ fn push_word(text: &mut String, at: u64) -> Result<(), AllocError>
     push_last(text, at)
 }
 
+/// Adds which byte of the message lies there.
+fn push_byte(text: &mut String, byte: u64) -> Result<(), AllocError>
+    ensures { OnOk result (string_bytes text.new ≡ string_bytes text.old ++ byte_text byte) }
+{
+    write!(text, ", at byte {byte} of the message")
+}
+
 /// Adds what lies at a place that a load read from: the name of a word of the summary, or which byte of the message.
 pub(crate) fn push_place(
     text: &mut String,
@@ -105,8 +123,7 @@ pub(crate) fn push_place(
 {
     let len = edition.summary_len() as u64;
     if at >= len {
-        let byte = at - len;
-        return write!(text, ", at byte {byte} of the message");
+        return push_byte(text, at - len);
     }
     match width {
         Width::Word => push_word(text, at),

@@ -7,6 +7,7 @@ ghost use Rattle.bpf_trace.specs.Views.{state_of};
 use crate::configuration::{Configuration, WORDS, word_of};
 use crate::effect::load;
 use crate::image_words::push_place;
+use crate::step::instruction_at;
 use bpf_code::{Ins, Op, Width};
 use bpf_text::put_instruction;
 use std::alloc::{AllocError, Global};
@@ -158,9 +159,10 @@ pub(crate) fn push_line(
 ) -> Result<(), AllocError>
     ensures { OnOk result (string_bytes text.new ≡ string_bytes text.old ++ step_line edition program.now image.now (state_of at.now)) }
 {
-    let Some(ins) = program.get(at.place) else {
+    if at.place >= program.len() {
         return Ok(());
-    };
+    }
+    let ins = instruction_at(program, at.place);
     match Op::of(ins.code) {
         Some(op) => push_row(alloc, text, edition, image, at, ins, op),
         None => Ok(()),

@@ -11,7 +11,7 @@ use bpf_verify::Verified;
 use summary::Image;
 
 /// The instruction at a place.
-fn instruction_at(code: &[Ins], place: usize) -> &Ins
+pub(crate) fn instruction_at(code: &[Ins], place: usize) -> &Ins
     requires { place < length code.now }
     ensures { slice_get code.now place ≡ Some result.now }
 {

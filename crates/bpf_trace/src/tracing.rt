@@ -34,7 +34,8 @@ pub fn push_trace(
         push_line(alloc, text, edition, program.code(), image, &at)?;
         match step(program, image, &at) {
             Some(Next::Goes(next)) => at = next,
-            Some(Next::Stops(_)) | None => return Ok(outcome),
+            Some(Next::Stops(_)) => return Ok(outcome),
+            None => return Ok(outcome),
         }
     }
     Ok(outcome)
