@@ -1,8 +1,9 @@
 -- What a judge says of a message, from what its steps answer.
-use Rattle.std.proofs.Common.{◌≡◌, ℕ, Bool, List, [], Option, Some, None, refl, ap, subst, ◌∙◌}
+use Rattle.std.proofs.Common.{◌≡◌, ℕ, Bool, true, false, List, [], ◌++◌, Option, Some, None, refl, sym, ap, subst, ◌∙◌}
 use Rattle.std.specs.Prelude.{string_bytes}
 use Rattle.bpf_code.specs.declared.instruction.Ins.{Ins}
 use Rattle.bpf_code.specs.Steps.{Ends}
+use Rattle.bpf_trace.specs.Traces.{IsTrace}
 use Rattle.dbusfan_tool.specs.declared.judgement.Judgement.{Judgement}
 use Rattle.message_view.specs.Message.{Message}
 use Rattle.message_view.specs.Valid.{Valid}
@@ -32,6 +33,17 @@ explained (Some front) tree owns (Some why) m text explains tells =
 none_told : (why : Option Why) (m : Message) (text : List ℕ) → why ≡ None → TellsOf why m text → text ≡ []
 none_told None m text none tells = tells
 none_told (Some why) m text none tells = absurd (cc)
+
+-- the lines of the steps are told where they are wanted
+pub traced_if : (traces : Bool) (edition : Edition) (code : List Ins) (image : List ℕ) (v steps : ℕ) (old text lines : List ℕ) → traces ≡ true → IsTrace edition code image v steps lines → old ≡ [] → text ≡ old ++ lines → IsTraceIf traces edition code image v steps text
+traced_if false edition code image v steps old text lines wanted trace none adds = absurd (cc)
+traced_if true edition code image v steps old text lines wanted trace none adds =
+    let is : lines ≡ text = sym (adds ∙ ap (λ (front : List ℕ). front ++ lines) none) in
+    subst (λ (told : List ℕ). IsTrace edition code image v steps told) is trace
+
+pub untraced_if : (traces : Bool) (edition : Edition) (code : List Ins) (image : List ℕ) (v steps : ℕ) (text : List ℕ) → traces ≡ false → text ≡ [] → IsTraceIf traces edition code image v steps text
+untraced_if false edition code image v steps text unwanted none = none
+untraced_if true edition code image v steps text unwanted none = absurd (cc)
 
 -- the run of the judge's program
 pub of_outcome : (judge : Judge) (program_judge : ProgramJudge) (bytes : List ℕ) (m : Message) (image : List ℕ) (outcome : Judgement) → Serves judge program_judge → Valid bytes m → image ≡ image_bytes program_judge.edition m program_judge.slots → Ends program_judge.program image outcome.verdict outcome.steps → IsTraceIf program_judge.traces program_judge.edition program_judge.program image outcome.verdict outcome.steps (string_bytes outcome.trace) → TellsOf program_judge.why m (string_bytes outcome.reasons) → IsOutcome judge bytes outcome

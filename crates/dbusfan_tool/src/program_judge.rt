@@ -116,11 +116,11 @@ impl ProgramJudge {
         ensures traced { IfOk result (λ ran. IsTraceIf self.now.traces self.now.edition self.now.program image.now ran.outcome.verdict ran.outcome.steps (string_bytes ran.trace)) }
     {
         let mut trace = String::new(alloc);
-        if !self.traces {
-            let outcome = run(&self.program, image);
+        if self.traces {
+            let outcome = push_trace(alloc, &mut trace, self.edition, &self.program, image)?;
             return Ok(Ran { outcome, trace });
         }
-        let outcome = push_trace(alloc, &mut trace, self.edition, &self.program, image)?;
+        let outcome = run(&self.program, image);
         Ok(Ran { outcome, trace })
     }
 
