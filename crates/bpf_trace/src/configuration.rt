@@ -41,7 +41,11 @@ pub(crate) fn first() -> Configuration
 pub(crate) fn word_of(at: &Configuration, k: u32) -> Option<u32>
     ensures { result ≡ (state_of at.now).words k }
 {
-    if k < WORDS { at.words[k as usize] } else { None }
+    if k < WORDS {
+        at.words[k as usize]
+    } else {
+        None
+    }
 }
 
 /// The configuration at the next place, with a scratch word set.

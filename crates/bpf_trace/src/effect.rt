@@ -94,12 +94,7 @@ fn branch(holds: bool, ins: &Ins) -> Effect
 }
 
 /// What an instruction does at a configuration, if it does anything.
-pub(crate) fn effect_of(
-    op: Op,
-    ins: &Ins,
-    image: &Image<'_>,
-    at: &Configuration,
-) -> Option<Effect>
+pub(crate) fn effect_of(op: Op, ins: &Ins, image: &Image<'_>, at: &Configuration) -> Option<Effect>
     requires { IsConstantFine op ins.now }
     ensures { option_map effect_by result ≡ effect_of op ins.now image.now at.now.a at.now.x ((state_of at.now).words ins.now.k) }
 {

@@ -233,16 +233,15 @@ impl<'a> Gathered<'a> {
                     why,
                 })
             }
-            (Names::One(file), Some(filter)) if !why
-                && !trace
-                && self.options.edition.is_none() => {
-                Some(CommandRow::MatchFilter {
-                    filter,
-                    file,
-                    owns,
-                    each,
-                })
-            }
+            (Names::One(file), Some(filter)) if !why && !trace && self.options.edition.is_none() =>
+                {
+                    Some(CommandRow::MatchFilter {
+                        filter,
+                        file,
+                        owns,
+                        each,
+                    })
+                }
             _ => None,
         }
     }
