@@ -3,7 +3,7 @@ _dbusfan_options() {
     case $1 in
     match) echo --filter --owns --each --why --help ;;
     compile) echo --filter --help ;;
-    run) echo --edition --each --help ;;
+    run) echo --edition --each --trace --help ;;
     asm | check) echo --help ;;
     serve) echo --listen --guid --connections --until-closed --limit --print-address --session --nofork --allow-anonymous --allow-external --log --quiet --help ;;
     watch) echo --program --edition --filter --attach --monitor --invert --rules --of --calls --slow --patience --summary --top --why --hex --json --time --clock --full --names --count --seconds --read --write --help ;;

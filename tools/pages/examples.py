@@ -62,7 +62,8 @@ def status_of(answer):
     """The status that a program ends with after an answer."""
     if answer.startswith("dbusfan: "):
         return dict(code.statuses())[answer.split()[1]]
-    return 1 if answer.startswith(("no match", "verdict 0 ", "0 of ")) else 0
+    last = answer.split("\n")[-1]
+    return 1 if answer.startswith(("no match", "0 of ")) or last.startswith("verdict 0 ") else 0
 
 
 def check_example(report, program, example):

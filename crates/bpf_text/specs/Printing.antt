@@ -91,6 +91,10 @@ targets_text place (Branch test operand) ins =
     codes ", L" ++ decimal (place + 1 + ins.jt) ++ codes ", L" ++ decimal (place + 1 + ins.jf)
 targets_text place _ ins = []
 
+-- an instruction at a place, without the label of its line
+abbrev pub instruction_text : ℕ → Op → Ins → List ℕ
+instruction_text place op ins = word_of op ++ operand_text op ins.k ++ targets_text place op ins
+
 -- a jump at a place that leads to this one
 abbrev pub jumps_by : ℕ → ℕ → Ins → Option Op → Bool
 jumps_by to place ins (Some Jump) = to == place + 1 + ins.k
@@ -110,7 +114,7 @@ label_text place true = codes "L" ++ decimal place ++ codes ": "
 -- a line
 unfoldable pub line_text : ℕ → Bool → Op → Ins → List ℕ
 line_text place target op ins =
-    label_text place target ++ word_of op ++ operand_text op ins.k ++ targets_text place op ins ++ codes "\n"
+    label_text place target ++ instruction_text place op ins ++ codes "\n"
 
 -- a jump that leaves a program of this length
 abbrev pub leaves : ℕ → ℕ → Op → Ins → Bool

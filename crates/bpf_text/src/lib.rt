@@ -1,6 +1,6 @@
 //! Programs of the packet filter as text, one instruction a line. The layers above use that `assemble` and
 //! `assemble_bytes` are `SourceText`, else the first fault, and that `print` gives the text `text_of`,
-//! which names the program, else the lowest fault.
+//! which names the program, else the lowest fault; and of `put_instruction` that it is the spelling that lines have.
 #![tactic(auto)]
 
 mod assembler;
@@ -17,3 +17,4 @@ mod spelling;
 
 pub use assembler::{assemble, assemble_bytes, one_source};
 pub use printer::{print, reads_back};
+pub use spelling::put_instruction;

@@ -1,6 +1,6 @@
 ghost use Rattle.std.specs.Prelude.{◌≡◌, ◌<◌, ◌^◌, ◌++◌, string_bytes, decimal, OnOk, IfErr};
 ghost use Rattle.bpf_code.specs.declared.error.CodeError.TheVariants.{NoMemory};
-ghost use Rattle.bpf_text.specs.Printing.{load_word, arithmetic_word, test_word, word_of, operand_text, targets_text, label_text, line_text};
+ghost use Rattle.bpf_text.specs.Printing.{load_word, arithmetic_word, test_word, word_of, operand_text, targets_text, instruction_text, label_text, line_text};
 
 use bpf_code::{Arithmetic, CodeError, Ins, Op, Operand, Test, Width};
 use itoa::Buffer;
@@ -136,6 +136,21 @@ fn put_label(out: &mut String, place: u64, is_target: bool) -> Result<(), CodeEr
     }
 }
 
+/// Writes an instruction at a place, as its line has it after the label.
+///
+/// # Errors
+///
+/// Memory was refused.
+pub fn put_instruction(out: &mut String, place: u64, op: Op, ins: &Ins) -> Result<(), CodeError>
+    requires { place < 2 ^ 63 }
+    ensures ok { OnOk result (string_bytes out.new ≡ string_bytes out.old ++ instruction_text place op ins.now) }
+    ensures only { IfErr result (λ e. e ≡ NoMemory) }
+{
+    put(out, name(op))?;
+    put_operand(out, op, u64::from(ins.k))?;
+    put_targets(out, place, op, ins)
+}
+
 /// Writes the line of an instruction.
 #[tactic(auto, unfolding(crate::specs::Printing::line_text))]
 pub(crate) fn put_line(
@@ -150,8 +165,6 @@ pub(crate) fn put_line(
     ensures only { IfErr result (λ e. e ≡ NoMemory) }
 {
     put_label(out, place, is_target)?;
-    put(out, name(op))?;
-    put_operand(out, op, u64::from(ins.k))?;
-    put_targets(out, place, op, ins)?;
+    put_instruction(out, place, op, ins)?;
     put(out, "\n")
 }

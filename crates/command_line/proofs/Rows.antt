@@ -12,9 +12,9 @@ use Rattle.std.proofs.Math.Bool.{or-false}
 use Rattle.std.proofs.lemmas.Bool.{cases_Bool, false_from_ne_true}
 use Rattle.std.proofs.lemmas.Bool.Decides.{Decides-ltb}
 use Rattle.std.proofs.lemmas.Slice.Eq.{bytes_eq-Decides}
-use Rattle.command_line.specs.CommandRow.{match_word, asm_word, check_word, compile_word, run_word, owns_word, each_word, why_word, edition_word, filter_word, word_of_edition, end_word, is_option, is_input, Options, no_options, Spells, nothing, ended, named, owned, eached, whyed, in_edition, by_filter, Asked, to_match, to_match_filter, to_asm, to_check, to_compile, to_compile_filter, to_run, IsRow, match_row, match_filter_row, asm_row, check_row, compile_row, compile_filter_row, run_row}
+use Rattle.command_line.specs.CommandRow.{match_word, asm_word, check_word, compile_word, run_word, owns_word, each_word, why_word, trace_word, edition_word, filter_word, word_of_edition, end_word, is_option, is_input, Options, no_options, Spells, nothing, ended, named, owned, eached, whyed, traced, in_edition, by_filter, Asked, to_match, to_match_filter, to_asm, to_check, to_compile, to_compile_filter, to_run, IsRow, match_row, match_filter_row, asm_row, check_row, compile_row, compile_filter_row, run_row}
 use Rattle.command_line.specs.Views.{asked_by}
-use Rattle.command_line.specs.RowReading.{Gathering, no_words, with_name, with_owns, with_each, with_why, with_edition, with_filter, edition_of, gather, match_of, compile_of, only_word, run_of, asked_of, asked_in}
+use Rattle.command_line.specs.RowReading.{Gathering, no_words, with_name, with_owns, with_each, with_why, with_trace, with_edition, with_filter, edition_of, gather, match_of, compile_of, only_word, run_of, asked_of, asked_in}
 
 abbrev Words : Type 0
 Words = List (List ℕ)
@@ -38,6 +38,7 @@ joined before later = record {
   owns = before.owns || later.owns;
   each = before.each || later.each;
   why = before.why || later.why;
+  trace = before.trace || later.trace;
   edition = either before.edition later.edition;
   filter = either before.filter later.filter;
 }
@@ -47,21 +48,22 @@ record Apart (before later : Options) : Type 0 where
   owns : (before.owns && later.owns) ≡ false
   each : (before.each && later.each) ≡ false
   why : (before.why && later.why) ≡ false
+  trace : (before.trace && later.trace) ≡ false
   edition : (is_some before.edition && is_some later.edition) ≡ false
   filter : (is_some before.filter && is_some later.filter) ≡ false
 
 joined_none : (before : Options) → joined before no_options ≡ before
-joined_none before = rw (or-false before.owns, or-false before.each, or-false before.why, either-none before.edition, either-none before.filter) refl
+joined_none before = rw (or-false before.owns, or-false before.each, or-false before.why, or-false before.trace, either-none before.edition, either-none before.filter) refl
 
 and_false : (b : Bool) → (b && false) ≡ false
 and_false true = refl
 and_false false = refl
 
 apart_none : (before : Options) → Apart before no_options
-apart_none before = record { owns = and_false before.owns; each = and_false before.each; why = and_false before.why; edition = and_false (is_some before.edition); filter = and_false (is_some before.filter) }
+apart_none before = record { owns = and_false before.owns; each = and_false before.each; why = and_false before.why; trace = and_false before.trace; edition = and_false (is_some before.edition); filter = and_false (is_some before.filter) }
 
 apart_first : (later : Options) → Apart no_options later
-apart_first later = record { owns = refl; each = refl; why = refl; edition = refl; filter = refl }
+apart_first later = record { owns = refl; each = refl; why = refl; trace = refl; edition = refl; filter = refl }
 
 -- what is given later wasn't given before
 not_before : (b : Bool) → (b && true) ≡ false → b ≡ false
@@ -125,28 +127,33 @@ spelled (named {options = later} {word = word} {names = names} plain rest) front
     let no_owns = other_word word owns_word refl plain in
     let no_each = other_word word each_word refl plain in
     let no_why = other_word word why_word refl plain in
+    let no_trace = other_word word trace_word refl plain in
     let no_edition = other_word word edition_word refl plain in
     let no_filter = other_word word filter_word refl plain in
-    (read.0, rw (no_end, no_owns, no_each, no_why, no_edition, no_filter, plain, room) (read.1 ∙ ap (λ all. Some (having all (joined before later) read.0)) (append_assoc front (word ∷ []) names)))
+    (read.0, rw (no_end, no_owns, no_each, no_why, no_trace, no_edition, no_filter, plain, room) (read.1 ∙ ap (λ all. Some (having all (joined before later) read.0)) (append_assoc front (word ∷ []) names)))
 spelled (owned {options = later} fresh rest) front before fits apart =
     let none : before.owns ≡ false = not_before before.owns apart.owns in
-    let read = spelled rest front (record before { owns = true }) fits (record { owns = fresh; each = apart.each; why = apart.why; edition = apart.edition; filter = apart.filter }) in
+    let read = spelled rest front (record before { owns = true }) fits (record { owns = fresh; each = apart.each; why = apart.why; trace = apart.trace; edition = apart.edition; filter = apart.filter }) in
     (read.0, rw none read.1)
 spelled (eached {options = later} fresh rest) front before fits apart =
     let none : before.each ≡ false = not_before before.each apart.each in
-    let read = spelled rest front (record before { each = true }) fits (record { owns = apart.owns; each = fresh; why = apart.why; edition = apart.edition; filter = apart.filter }) in
+    let read = spelled rest front (record before { each = true }) fits (record { owns = apart.owns; each = fresh; why = apart.why; trace = apart.trace; edition = apart.edition; filter = apart.filter }) in
     (read.0, rw none read.1)
 spelled (whyed {options = later} fresh rest) front before fits apart =
     let none : before.why ≡ false = not_before before.why apart.why in
-    let read = spelled rest front (record before { why = true }) fits (record { owns = apart.owns; each = apart.each; why = fresh; edition = apart.edition; filter = apart.filter }) in
+    let read = spelled rest front (record before { why = true }) fits (record { owns = apart.owns; each = apart.each; why = fresh; trace = apart.trace; edition = apart.edition; filter = apart.filter }) in
+    (read.0, rw none read.1)
+spelled (traced {options = later} fresh rest) front before fits apart =
+    let none : before.trace ≡ false = not_before before.trace apart.trace in
+    let read = spelled rest front (record before { trace = true }) fits (record { owns = apart.owns; each = apart.each; why = apart.why; trace = fresh; edition = apart.edition; filter = apart.filter }) in
     (read.0, rw none read.1)
 spelled (in_edition {options = later} {edition = value} fresh rest) front before fits apart =
     let none : before.edition ≡ None = none_before before.edition apart.edition in
-    let read = spelled rest front (record before { edition = Some value }) fits (record { owns = apart.owns; each = apart.each; why = apart.why; edition = rw fresh refl; filter = apart.filter }) in
+    let read = spelled rest front (record before { edition = Some value }) fits (record { owns = apart.owns; each = apart.each; why = apart.why; trace = apart.trace; edition = rw fresh refl; filter = apart.filter }) in
     (read.0, rw (none, said_edition value) read.1)
 spelled (by_filter {options = later} {expression = value} fresh rest) front before fits apart =
     let none : before.filter ≡ None = none_before before.filter apart.filter in
-    let read = spelled rest front (record before { filter = Some value }) fits (record { owns = apart.owns; each = apart.each; why = apart.why; edition = apart.edition; filter = rw fresh refl }) in
+    let read = spelled rest front (record before { filter = Some value }) fits (record { owns = apart.owns; each = apart.each; why = apart.why; trace = apart.trace; edition = apart.edition; filter = rw fresh refl }) in
     (read.0, rw none read.1)
 
 -- what a gathering that began with a front and with options says of the words after them
@@ -202,7 +209,7 @@ owns_found front words before all rest e =
       | inl given ↦ let none : None ≡ Some all = rw given at e in absurd (cc)
       | inr none ↦
           let tail = rest front (record before { owns = true }) all (rw none at e) in
-          record { options = record tail.options { owns = true }; names = tail.names; spells = owned tail.apart.owns tail.spells; all_names = tail.all_names; all_options = rw none tail.all_options; apart = record { owns = rw none refl; each = tail.apart.each; why = tail.apart.why; edition = tail.apart.edition; filter = tail.apart.filter } }
+          record { options = record tail.options { owns = true }; names = tail.names; spells = owned tail.apart.owns tail.spells; all_names = tail.all_names; all_options = rw none tail.all_options; apart = record { owns = rw none refl; each = tail.apart.each; why = tail.apart.why; trace = tail.apart.trace; edition = tail.apart.edition; filter = tail.apart.filter } }
     ]
 
 each_found : (front words : Words) (before : Options) (all : Gathering) → IsFound words → option_and_then (λ next. gather next words) (with_each (having front before AnyWord)) ≡ Some all → Found front before (each_word ∷ words) all
@@ -211,7 +218,7 @@ each_found front words before all rest e =
       | inl given ↦ let none : None ≡ Some all = rw given at e in absurd (cc)
       | inr none ↦
           let tail = rest front (record before { each = true }) all (rw none at e) in
-          record { options = record tail.options { each = true }; names = tail.names; spells = eached tail.apart.each tail.spells; all_names = tail.all_names; all_options = rw none tail.all_options; apart = record { owns = tail.apart.owns; each = rw none refl; why = tail.apart.why; edition = tail.apart.edition; filter = tail.apart.filter } }
+          record { options = record tail.options { each = true }; names = tail.names; spells = eached tail.apart.each tail.spells; all_names = tail.all_names; all_options = rw none tail.all_options; apart = record { owns = tail.apart.owns; each = rw none refl; why = tail.apart.why; trace = tail.apart.trace; edition = tail.apart.edition; filter = tail.apart.filter } }
     ]
 
 why_found : (front words : Words) (before : Options) (all : Gathering) → IsFound words → option_and_then (λ next. gather next words) (with_why (having front before AnyWord)) ≡ Some all → Found front before (why_word ∷ words) all
@@ -220,7 +227,16 @@ why_found front words before all rest e =
       | inl given ↦ let none : None ≡ Some all = rw given at e in absurd (cc)
       | inr none ↦
           let tail = rest front (record before { why = true }) all (rw none at e) in
-          record { options = record tail.options { why = true }; names = tail.names; spells = whyed tail.apart.why tail.spells; all_names = tail.all_names; all_options = rw none tail.all_options; apart = record { owns = tail.apart.owns; each = tail.apart.each; why = rw none refl; edition = tail.apart.edition; filter = tail.apart.filter } }
+          record { options = record tail.options { why = true }; names = tail.names; spells = whyed tail.apart.why tail.spells; all_names = tail.all_names; all_options = rw none tail.all_options; apart = record { owns = tail.apart.owns; each = tail.apart.each; why = rw none refl; trace = tail.apart.trace; edition = tail.apart.edition; filter = tail.apart.filter } }
+    ]
+
+trace_found : (front words : Words) (before : Options) (all : Gathering) → IsFound words → option_and_then (λ next. gather next words) (with_trace (having front before AnyWord)) ≡ Some all → Found front before (trace_word ∷ words) all
+trace_found front words before all rest e =
+    elim (cases_Bool before.trace) [
+      | inl given ↦ let none : None ≡ Some all = rw given at e in absurd (cc)
+      | inr none ↦
+          let tail = rest front (record before { trace = true }) all (rw none at e) in
+          record { options = record tail.options { trace = true }; names = tail.names; spells = traced tail.apart.trace tail.spells; all_names = tail.all_names; all_options = rw none tail.all_options; apart = record { owns = tail.apart.owns; each = tail.apart.each; why = tail.apart.why; trace = rw none refl; edition = tail.apart.edition; filter = tail.apart.filter } }
     ]
 
 edition_found : (front words : Words) (before : Options) (all : Gathering) → IsFoundEdition words → (given : Option Edition) → before.edition ≡ given → option_and_then (λ next. gather next words) (with_edition (having front before AnyWord)) ≡ Some all → Found front before (edition_word ∷ words) all
@@ -230,7 +246,7 @@ edition_found front words before all rest None is e =
     let tail = said.rest in
     let options : Options = record tail.options { edition = Some said.edition } in
     let spells : Spells options tail.names (edition_word ∷ word_of_edition said.edition ∷ said.tail) = in_edition (none_beside tail.options.edition tail.apart.edition) tail.spells in
-    record { options = options; names = tail.names; spells = subst (λ (words : Words). Spells options tail.names (edition_word ∷ words)) (sym said.words_are) spells; all_names = tail.all_names; all_options = rw is tail.all_options; apart = record { owns = tail.apart.owns; each = tail.apart.each; why = tail.apart.why; edition = rw is refl; filter = tail.apart.filter } }
+    record { options = options; names = tail.names; spells = subst (λ (words : Words). Spells options tail.names (edition_word ∷ words)) (sym said.words_are) spells; all_names = tail.all_names; all_options = rw is tail.all_options; apart = record { owns = tail.apart.owns; each = tail.apart.each; why = tail.apart.why; trace = tail.apart.trace; edition = rw is refl; filter = tail.apart.filter } }
 
 filter_found : (front words : Words) (before : Options) (all : Gathering) → IsFoundFilter words → (given : Option (List ℕ)) → before.filter ≡ given → option_and_then (λ next. gather next words) (with_filter (having front before AnyWord)) ≡ Some all → Found front before (filter_word ∷ words) all
 filter_found front words before all rest (Some expression) is e = let none : None ≡ Some all = rw is at e in absurd (cc)
@@ -239,7 +255,7 @@ filter_found front words before all rest None is e =
     let tail = said.rest in
     let options : Options = record tail.options { filter = Some said.expression } in
     let spells : Spells options tail.names (filter_word ∷ said.expression ∷ said.tail) = by_filter (none_beside tail.options.filter tail.apart.filter) tail.spells in
-    record { options = options; names = tail.names; spells = subst (λ (words : Words). Spells options tail.names (filter_word ∷ words)) (sym said.words_are) spells; all_names = tail.all_names; all_options = rw is tail.all_options; apart = record { owns = tail.apart.owns; each = tail.apart.each; why = tail.apart.why; edition = tail.apart.edition; filter = rw is refl } }
+    record { options = options; names = tail.names; spells = subst (λ (words : Words). Spells options tail.names (filter_word ∷ words)) (sym said.words_are) spells; all_names = tail.all_names; all_options = rw is tail.all_options; apart = record { owns = tail.apart.owns; each = tail.apart.each; why = tail.apart.why; trace = tail.apart.trace; edition = tail.apart.edition; filter = rw is refl } }
 
 name_found : (front : Words) (word : List ℕ) (words : Words) (before : Options) (all : Gathering) → is_option word ≡ false → IsFound words → option_and_then (λ next. gather next words) (with_name word (having front before AnyWord)) ≡ Some all → Found front before (word ∷ words) all
 name_found front word words before all plain rest e =
@@ -260,13 +276,16 @@ any_found word words rest of_edition of_filter front before all e =
           | inl same ↦ as_known each_word same (each_found front words before all rest (rw (no_end, no_owns, same) at e))
           | inr no_each ↦ elim (cases_Bool (bytes_eq word why_word)) [
             | inl same ↦ as_known why_word same (why_found front words before all rest (rw (no_end, no_owns, no_each, same) at e))
-            | inr no_why ↦ elim (cases_Bool (bytes_eq word edition_word)) [
-              | inl same ↦ as_known edition_word same (edition_found front words before all of_edition before.edition refl (rw (no_end, no_owns, no_each, no_why, same) at e))
-              | inr no_edition ↦ elim (cases_Bool (bytes_eq word filter_word)) [
-                | inl same ↦ as_known filter_word same (filter_found front words before all of_filter before.filter refl (rw (no_end, no_owns, no_each, no_why, no_edition, same) at e))
-                | inr no_filter ↦ elim (cases_Bool (is_option word)) [
-                  | inl option ↦ let none : None ≡ Some all = rw (no_end, no_owns, no_each, no_why, no_edition, no_filter, option) at e in absurd (cc)
-                  | inr plain ↦ name_found front word words before all plain rest (rw (no_end, no_owns, no_each, no_why, no_edition, no_filter, plain) at e)
+            | inr no_why ↦ elim (cases_Bool (bytes_eq word trace_word)) [
+              | inl same ↦ as_known trace_word same (trace_found front words before all rest (rw (no_end, no_owns, no_each, no_why, same) at e))
+              | inr no_trace ↦ elim (cases_Bool (bytes_eq word edition_word)) [
+                | inl same ↦ as_known edition_word same (edition_found front words before all of_edition before.edition refl (rw (no_end, no_owns, no_each, no_why, no_trace, same) at e))
+                | inr no_edition ↦ elim (cases_Bool (bytes_eq word filter_word)) [
+                  | inl same ↦ as_known filter_word same (filter_found front words before all of_filter before.filter refl (rw (no_end, no_owns, no_each, no_why, no_trace, no_edition, same) at e))
+                  | inr no_filter ↦ elim (cases_Bool (is_option word)) [
+                    | inl option ↦ let none : None ≡ Some all = rw (no_end, no_owns, no_each, no_why, no_trace, no_edition, no_filter, option) at e in absurd (cc)
+                    | inr plain ↦ name_found front word words before all plain rest (rw (no_end, no_owns, no_each, no_why, no_trace, no_edition, no_filter, plain) at e)
+                  ]
                 ]
               ]
             ]
@@ -301,69 +320,73 @@ found (word ∷ words) =
 -- ---- which rows they are
 
 -- the words after `match`
-match_words : (asked : Asked) (names words : Words) (owns each why : Bool) (edition : Option Edition) (filter : Option (List ℕ)) → Spells (record { owns = owns; each = each; why = why; edition = edition; filter = filter }) names words → match_of names (record { owns = owns; each = each; why = why; edition = edition; filter = filter }) ≡ Some asked → IsRow asked (match_word ∷ words)
-match_words asked [] words owns each why edition filter spells e = absurd (cc)
-match_words asked (file ∷ []) words owns each why edition None spells e = absurd (cc)
-match_words asked (file ∷ []) words owns each true edition (Some expression) spells e = absurd (cc)
-match_words asked (file ∷ []) words owns each false (Some edition) (Some expression) spells e = absurd (cc)
-match_words asked (file ∷ []) words owns each false None (Some expression) spells e =
+match_words : (asked : Asked) (names words : Words) (owns each why trace : Bool) (edition : Option Edition) (filter : Option (List ℕ)) → Spells (record { owns = owns; each = each; why = why; trace = trace; edition = edition; filter = filter }) names words → match_of names (record { owns = owns; each = each; why = why; trace = trace; edition = edition; filter = filter }) ≡ Some asked → IsRow asked (match_word ∷ words)
+match_words asked [] words owns each why trace edition filter spells e = absurd (cc)
+match_words asked (file ∷ []) words owns each why trace edition None spells e = absurd (cc)
+match_words asked (file ∷ []) words owns each true trace edition (Some expression) spells e = absurd (cc)
+match_words asked (file ∷ []) words owns each false true edition (Some expression) spells e = absurd (cc)
+match_words asked (file ∷ []) words owns each false false (Some edition) (Some expression) spells e = absurd (cc)
+match_words asked (file ∷ []) words owns each false false None (Some expression) spells e =
     let is : to_match_filter expression file owns each ≡ asked = cc in
     subst (λ (x : Asked). IsRow x (match_word ∷ words)) is (match_filter_row spells)
-match_words asked (rule ∷ file ∷ []) words owns each why edition (Some expression) spells e = absurd (cc)
-match_words asked (rule ∷ file ∷ []) words owns each why (Some edition) None spells e = absurd (cc)
-match_words asked (rule ∷ file ∷ []) words owns each why None None spells e =
+match_words asked (rule ∷ file ∷ []) words owns each why trace edition (Some expression) spells e = absurd (cc)
+match_words asked (rule ∷ file ∷ []) words owns each why true edition None spells e = absurd (cc)
+match_words asked (rule ∷ file ∷ []) words owns each why false (Some edition) None spells e = absurd (cc)
+match_words asked (rule ∷ file ∷ []) words owns each why false None None spells e =
     let is : to_match rule file owns each why ≡ asked = cc in
     subst (λ (x : Asked). IsRow x (match_word ∷ words)) is (match_row spells)
-match_words asked (rule ∷ file ∷ other ∷ names) words owns each why edition filter spells e = absurd (cc)
+match_words asked (rule ∷ file ∷ other ∷ names) words owns each why trace edition filter spells e = absurd (cc)
 
 -- one word after `asm` or `check`
-file_word : (make : List ℕ → Asked) (command : List ℕ) (asked : Asked) (names words : Words) (owns each why : Bool) (edition : Option Edition) (filter : Option (List ℕ)) → ((file : List ℕ) → Spells no_options (file ∷ []) words → IsRow (make file) (command ∷ words)) → Spells (record { owns = owns; each = each; why = why; edition = edition; filter = filter }) names words → option_map make (only_word names (record { owns = owns; each = each; why = why; edition = edition; filter = filter })) ≡ Some asked → IsRow asked (command ∷ words)
-file_word make command asked names words true each why edition filter row spells e = absurd (cc)
-file_word make command asked names words false true why edition filter row spells e = absurd (cc)
-file_word make command asked names words false false true edition filter row spells e = absurd (cc)
-file_word make command asked names words false false false (Some edition) filter row spells e = absurd (cc)
-file_word make command asked [] words false false false None filter row spells e = absurd (cc)
-file_word make command asked (file ∷ []) words false false false None (Some expression) row spells e = absurd (cc)
-file_word make command asked (file ∷ []) words false false false None None row spells e =
+file_word : (make : List ℕ → Asked) (command : List ℕ) (asked : Asked) (names words : Words) (owns each why trace : Bool) (edition : Option Edition) (filter : Option (List ℕ)) → ((file : List ℕ) → Spells no_options (file ∷ []) words → IsRow (make file) (command ∷ words)) → Spells (record { owns = owns; each = each; why = why; trace = trace; edition = edition; filter = filter }) names words → option_map make (only_word names (record { owns = owns; each = each; why = why; trace = trace; edition = edition; filter = filter })) ≡ Some asked → IsRow asked (command ∷ words)
+file_word make command asked names words true each why trace edition filter row spells e = absurd (cc)
+file_word make command asked names words false true why trace edition filter row spells e = absurd (cc)
+file_word make command asked names words false false true trace edition filter row spells e = absurd (cc)
+file_word make command asked names words false false false true edition filter row spells e = absurd (cc)
+file_word make command asked names words false false false false (Some edition) filter row spells e = absurd (cc)
+file_word make command asked [] words false false false false None filter row spells e = absurd (cc)
+file_word make command asked (file ∷ []) words false false false false None (Some expression) row spells e = absurd (cc)
+file_word make command asked (file ∷ []) words false false false false None None row spells e =
     let made : make file ≡ asked = cc in
     subst (λ (x : Asked). IsRow x (command ∷ words)) made (row file spells)
-file_word make command asked (file ∷ other ∷ names) words false false false None filter row spells e = absurd (cc)
+file_word make command asked (file ∷ other ∷ names) words false false false false None filter row spells e = absurd (cc)
 
 -- the words after `compile`
-compile_words : (asked : Asked) (names words : Words) (owns each why : Bool) (edition : Option Edition) (filter : Option (List ℕ)) → Spells (record { owns = owns; each = each; why = why; edition = edition; filter = filter }) names words → compile_of names (record { owns = owns; each = each; why = why; edition = edition; filter = filter }) ≡ Some asked → IsRow asked (compile_word ∷ words)
-compile_words asked names words true each why edition filter spells e = absurd (cc)
-compile_words asked names words false true why edition filter spells e = absurd (cc)
-compile_words asked names words false false true edition filter spells e = absurd (cc)
-compile_words asked names words false false false (Some edition) filter spells e = absurd (cc)
-compile_words asked [] words false false false None None spells e = absurd (cc)
-compile_words asked [] words false false false None (Some expression) spells e =
+compile_words : (asked : Asked) (names words : Words) (owns each why trace : Bool) (edition : Option Edition) (filter : Option (List ℕ)) → Spells (record { owns = owns; each = each; why = why; trace = trace; edition = edition; filter = filter }) names words → compile_of names (record { owns = owns; each = each; why = why; trace = trace; edition = edition; filter = filter }) ≡ Some asked → IsRow asked (compile_word ∷ words)
+compile_words asked names words true each why trace edition filter spells e = absurd (cc)
+compile_words asked names words false true why trace edition filter spells e = absurd (cc)
+compile_words asked names words false false true trace edition filter spells e = absurd (cc)
+compile_words asked names words false false false true edition filter spells e = absurd (cc)
+compile_words asked names words false false false false (Some edition) filter spells e = absurd (cc)
+compile_words asked [] words false false false false None None spells e = absurd (cc)
+compile_words asked [] words false false false false None (Some expression) spells e =
     let is : to_compile_filter expression ≡ asked = cc in
     subst (λ (x : Asked). IsRow x (compile_word ∷ words)) is (compile_filter_row spells)
-compile_words asked (rule ∷ []) words false false false None (Some expression) spells e = absurd (cc)
-compile_words asked (rule ∷ []) words false false false None None spells e =
+compile_words asked (rule ∷ []) words false false false false None (Some expression) spells e = absurd (cc)
+compile_words asked (rule ∷ []) words false false false false None None spells e =
     let is : to_compile rule ≡ asked = cc in
     subst (λ (x : Asked). IsRow x (compile_word ∷ words)) is (compile_row spells)
-compile_words asked (rule ∷ other ∷ names) words false false false None filter spells e = absurd (cc)
+compile_words asked (rule ∷ other ∷ names) words false false false false None filter spells e = absurd (cc)
 
 -- two words after `run`, which aren't both standard input
-run_files : (asked : Asked) (program file : List ℕ) (words : Words) (each : Bool) (edition : Option Edition) → Spells (record no_options { each = each; edition = edition }) (program ∷ file ∷ []) words → run_of (program ∷ file ∷ []) (record no_options { each = each; edition = edition }) ≡ Some asked → IsRow asked (run_word ∷ words)
-run_files asked program file words each edition spells e =
+run_files : (asked : Asked) (program file : List ℕ) (words : Words) (each trace : Bool) (edition : Option Edition) → Spells (record no_options { each = each; trace = trace; edition = edition }) (program ∷ file ∷ []) words → run_of (program ∷ file ∷ []) (record no_options { each = each; trace = trace; edition = edition }) ≡ Some asked → IsRow asked (run_word ∷ words)
+run_files asked program file words each trace edition spells e =
     elim (cases_Bool (is_input program && is_input file)) [
       | inl both ↦ let none : None ≡ Some asked = rw both at e in absurd (cc)
       | inr one ↦
-          let some : Some (to_run program file (unwrap_or edition One) each) ≡ Some asked = rw one at e in
-          let is : to_run program file (unwrap_or edition One) each ≡ asked = cc in
+          let some : Some (to_run program file (unwrap_or edition One) each trace) ≡ Some asked = rw one at e in
+          let is : to_run program file (unwrap_or edition One) each trace ≡ asked = cc in
           subst (λ (x : Asked). IsRow x (run_word ∷ words)) is (run_row one spells)
     ]
 
-run_words : (asked : Asked) (names words : Words) (owns each why : Bool) (edition : Option Edition) (filter : Option (List ℕ)) → Spells (record { owns = owns; each = each; why = why; edition = edition; filter = filter }) names words → run_of names (record { owns = owns; each = each; why = why; edition = edition; filter = filter }) ≡ Some asked → IsRow asked (run_word ∷ words)
-run_words asked [] words owns each why edition filter spells e = absurd (cc)
-run_words asked (program ∷ []) words owns each why edition filter spells e = absurd (cc)
-run_words asked (program ∷ file ∷ []) words owns each why edition (Some expression) spells e = absurd (cc)
-run_words asked (program ∷ file ∷ []) words true each why edition None spells e = absurd (cc)
-run_words asked (program ∷ file ∷ []) words false each true edition None spells e = absurd (cc)
-run_words asked (program ∷ file ∷ []) words false each false edition None spells e = run_files asked program file words each edition spells e
-run_words asked (program ∷ file ∷ other ∷ names) words owns each why edition filter spells e = absurd (cc)
+run_words : (asked : Asked) (names words : Words) (owns each why trace : Bool) (edition : Option Edition) (filter : Option (List ℕ)) → Spells (record { owns = owns; each = each; why = why; trace = trace; edition = edition; filter = filter }) names words → run_of names (record { owns = owns; each = each; why = why; trace = trace; edition = edition; filter = filter }) ≡ Some asked → IsRow asked (run_word ∷ words)
+run_words asked [] words owns each why trace edition filter spells e = absurd (cc)
+run_words asked (program ∷ []) words owns each why trace edition filter spells e = absurd (cc)
+run_words asked (program ∷ file ∷ []) words owns each why trace edition (Some expression) spells e = absurd (cc)
+run_words asked (program ∷ file ∷ []) words true each why trace edition None spells e = absurd (cc)
+run_words asked (program ∷ file ∷ []) words false each true trace edition None spells e = absurd (cc)
+run_words asked (program ∷ file ∷ []) words false each false trace edition None spells e = run_files asked program file words each trace edition spells e
+run_words asked (program ∷ file ∷ other ∷ names) words owns each why trace edition filter spells e = absurd (cc)
 
 -- What is asked after a command is its row.
 row_of_asked : (asked : Asked) (command : List ℕ) (words : Words) (all : Gathering) → Found [] no_options words all → asked_of command all ≡ Some asked → IsRow asked (command ∷ words)
@@ -371,15 +394,15 @@ row_of_asked asked command words all found e =
     let o = found.options in
     let gathered : asked_of command (having found.names found.options all.awaited) ≡ Some asked = rw (found.all_names, found.all_options) at e in
     elim (cases_Bool (bytes_eq command match_word)) [
-      | inl same ↦ as_known match_word same (match_words asked found.names words o.owns o.each o.why o.edition o.filter found.spells (rw same at gathered))
+      | inl same ↦ as_known match_word same (match_words asked found.names words o.owns o.each o.why o.trace o.edition o.filter found.spells (rw same at gathered))
       | inr no_match ↦ elim (cases_Bool (bytes_eq command asm_word)) [
-        | inl same ↦ as_known asm_word same (file_word to_asm asm_word asked found.names words o.owns o.each o.why o.edition o.filter (λ file spells. asm_row spells) found.spells (rw (no_match, same) at gathered))
+        | inl same ↦ as_known asm_word same (file_word to_asm asm_word asked found.names words o.owns o.each o.why o.trace o.edition o.filter (λ file spells. asm_row spells) found.spells (rw (no_match, same) at gathered))
         | inr no_asm ↦ elim (cases_Bool (bytes_eq command check_word)) [
-          | inl same ↦ as_known check_word same (file_word to_check check_word asked found.names words o.owns o.each o.why o.edition o.filter (λ file spells. check_row spells) found.spells (rw (no_match, no_asm, same) at gathered))
+          | inl same ↦ as_known check_word same (file_word to_check check_word asked found.names words o.owns o.each o.why o.trace o.edition o.filter (λ file spells. check_row spells) found.spells (rw (no_match, no_asm, same) at gathered))
           | inr no_check ↦ elim (cases_Bool (bytes_eq command compile_word)) [
-            | inl same ↦ as_known compile_word same (compile_words asked found.names words o.owns o.each o.why o.edition o.filter found.spells (rw (no_match, no_asm, no_check, same) at gathered))
+            | inl same ↦ as_known compile_word same (compile_words asked found.names words o.owns o.each o.why o.trace o.edition o.filter found.spells (rw (no_match, no_asm, no_check, same) at gathered))
             | inr no_compile ↦ elim (cases_Bool (bytes_eq command run_word)) [
-              | inl same ↦ as_known run_word same (run_words asked found.names words o.owns o.each o.why o.edition o.filter found.spells (rw (no_match, no_asm, no_check, no_compile, same) at gathered))
+              | inl same ↦ as_known run_word same (run_words asked found.names words o.owns o.each o.why o.trace o.edition o.filter found.spells (rw (no_match, no_asm, no_check, no_compile, same) at gathered))
               | inr other ↦ let none : None ≡ Some asked = rw (no_match, no_asm, no_check, no_compile, other) at gathered in absurd (cc)
             ]
           ]

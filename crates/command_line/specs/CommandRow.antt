@@ -41,6 +41,10 @@ each_word = codes "--each"
 abbrev pub why_word : List ℕ
 why_word = codes "--why"
 
+-- `--trace`: the steps of a program are wanted
+abbrev pub trace_word : List ℕ
+trace_word = codes "--trace"
+
 -- `--edition`: the next word says of which edition the image is
 abbrev pub edition_word : List ℕ
 edition_word = codes "--edition"
@@ -66,17 +70,18 @@ is_option word = nat_lt 1 (length word) && slice_index word 0 == 45
 abbrev pub is_input : List ℕ → Bool
 is_input word = bytes_eq word (codes "-")
 
--- the options of a row: `--owns`, `--each`, `--why`, an edition, and a filter expression
+-- the options of a row: `--owns`, `--each`, `--why`, `--trace`, an edition, and a filter expression
 pub record Options : Type 0 where
   pub owns : Bool
   pub each : Bool
   pub why : Bool
+  pub trace : Bool
   pub edition : Option Edition
   pub filter : Option (List ℕ)
 
 -- no option is given
 abbrev pub no_options : Options
-no_options = record { owns = false; each = false; why = false; edition = None; filter = None }
+no_options = record { owns = false; each = false; why = false; trace = false; edition = None; filter = None }
 
 -- The options among the words after a command, and the words that are no options, in their order. An option may stand
 -- anywhere before `--`, and is given once at most.
@@ -87,6 +92,7 @@ pub data Spells : Options → List (List ℕ) → List (List ℕ) → Type 0 whe
   owned : {options : Options} {names words : List (List ℕ)} → options.owns ≡ false → Spells options names words → Spells (record options { owns = true }) names (owns_word ∷ words)
   eached : {options : Options} {names words : List (List ℕ)} → options.each ≡ false → Spells options names words → Spells (record options { each = true }) names (each_word ∷ words)
   whyed : {options : Options} {names words : List (List ℕ)} → options.why ≡ false → Spells options names words → Spells (record options { why = true }) names (why_word ∷ words)
+  traced : {options : Options} {names words : List (List ℕ)} → options.trace ≡ false → Spells options names words → Spells (record options { trace = true }) names (trace_word ∷ words)
   in_edition : {options : Options} {edition : Edition} {names words : List (List ℕ)} → options.edition ≡ None → Spells options names words → Spells (record options { edition = Some edition }) names (edition_word ∷ word_of_edition edition ∷ words)
   by_filter : {options : Options} {expression : List ℕ} {names words : List (List ℕ)} → options.filter ≡ None → Spells options names words → Spells (record options { filter = Some expression }) names (filter_word ∷ expression ∷ words)
 
@@ -98,11 +104,11 @@ pub data Asked : Type 0 where
   to_check : (file : List ℕ) → Asked
   to_compile : (rule : List ℕ) → Asked
   to_compile_filter : (expression : List ℕ) → Asked
-  to_run : (program file : List ℕ) (edition : Edition) (each : Bool) → Asked
+  to_run : (program file : List ℕ) (edition : Edition) (each trace : Bool) → Asked
 
 -- `match RULE FILE [--owns] [--each] [--why]`, `match --filter EXPR FILE [--owns] [--each]`, `asm FILE`, `check FILE`,
--- `compile RULE`, `compile --filter EXPR`, `run PROGRAM FILE [--edition 1|2] [--each]`, whose edition is 1 where none is
--- given, and one of whose files alone may be standard input
+-- `compile RULE`, `compile --filter EXPR`, `run PROGRAM FILE [--edition 1|2] [--each] [--trace]`, whose edition is 1 where
+-- none is given, and one of whose files alone may be standard input
 pub data IsRow : Asked → List (List ℕ) → Type 0 where
   match_row : {rule file : List ℕ} {owns each why : Bool} {words : List (List ℕ)} → Spells (record no_options { owns = owns; each = each; why = why }) (rule ∷ file ∷ []) words → IsRow (to_match rule file owns each why) (match_word ∷ words)
   match_filter_row : {expression file : List ℕ} {owns each : Bool} {words : List (List ℕ)} → Spells (record no_options { owns = owns; each = each; filter = Some expression }) (file ∷ []) words → IsRow (to_match_filter expression file owns each) (match_word ∷ words)
@@ -110,4 +116,4 @@ pub data IsRow : Asked → List (List ℕ) → Type 0 where
   check_row : {file : List ℕ} {words : List (List ℕ)} → Spells no_options (file ∷ []) words → IsRow (to_check file) (check_word ∷ words)
   compile_row : {rule : List ℕ} {words : List (List ℕ)} → Spells no_options (rule ∷ []) words → IsRow (to_compile rule) (compile_word ∷ words)
   compile_filter_row : {expression : List ℕ} {words : List (List ℕ)} → Spells (record no_options { filter = Some expression }) [] words → IsRow (to_compile_filter expression) (compile_word ∷ words)
-  run_row : {program file : List ℕ} {option : Option Edition} {each : Bool} {words : List (List ℕ)} → is_input program && is_input file ≡ false → Spells (record no_options { each = each; edition = option }) (program ∷ file ∷ []) words → IsRow (to_run program file (unwrap_or option One) each) (run_word ∷ words)
+  run_row : {program file : List ℕ} {option : Option Edition} {each trace : Bool} {words : List (List ℕ)} → is_input program && is_input file ≡ false → Spells (record no_options { each = each; trace = trace; edition = option }) (program ∷ file ∷ []) words → IsRow (to_run program file (unwrap_or option One) each trace) (run_word ∷ words)

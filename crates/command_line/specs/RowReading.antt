@@ -6,7 +6,7 @@ use Rattle.summary.specs.declared.edition.Edition.{Edition}
 use Rattle.summary.specs.declared.edition.Edition.TheVariants.{One, Two}
 use Rattle.command_line.specs.declared.gathered.Awaited.{Awaited}
 use Rattle.command_line.specs.declared.gathered.Awaited.TheVariants.{AnyWord, EditionWord, FilterWord, NameAlone}
-use Rattle.command_line.specs.CommandRow.{match_word, asm_word, check_word, compile_word, run_word, owns_word, each_word, why_word, edition_word, filter_word, word_of_edition, end_word, is_option, is_input, Options, no_options, Asked, to_match, to_match_filter, to_asm, to_check, to_compile, to_compile_filter, to_run}
+use Rattle.command_line.specs.CommandRow.{match_word, asm_word, check_word, compile_word, run_word, owns_word, each_word, why_word, trace_word, edition_word, filter_word, word_of_edition, end_word, is_option, is_input, Options, no_options, Asked, to_match, to_match_filter, to_asm, to_check, to_compile, to_compile_filter, to_run}
 
 -- What has been read so far: at most two words that are no options, the options, and what the next word may be.
 pub record Gathering : Type 0 where
@@ -32,6 +32,10 @@ with_each so_far = if so_far.options.each then None else Some (record so_far { o
 -- `--why`
 abbrev pub with_why : Gathering → Option Gathering
 with_why so_far = if so_far.options.why then None else Some (record so_far { options = record so_far.options { why = true } })
+
+-- `--trace`
+abbrev pub with_trace : Gathering → Option Gathering
+with_trace so_far = if so_far.options.trace then None else Some (record so_far { options = record so_far.options { trace = true } })
 
 -- `--edition`
 abbrev pub with_edition : Gathering → Option Gathering
@@ -64,6 +68,7 @@ with_any word so_far =
     else if bytes_eq word owns_word then with_owns so_far
     else if bytes_eq word each_word then with_each so_far
     else if bytes_eq word why_word then with_why so_far
+    else if bytes_eq word trace_word then with_trace so_far
     else if bytes_eq word edition_word then with_edition so_far
     else if bytes_eq word filter_word then with_filter so_far
     else if is_option word then None
@@ -93,14 +98,14 @@ gather so_far (word ∷ words) = option_and_then (λ next. gather next words) (w
 
 -- no option is given, but for a filter
 abbrev pub are_plain : Options → Bool
-are_plain options = not options.owns && not options.each && not options.why && not (is_some options.edition)
+are_plain options = not options.owns && not options.each && not options.why && not options.trace && not (is_some options.edition)
 
 -- what `match`, its words and a filter ask for
 abbrev pub match_by : List (List ℕ) → Options → Option (List ℕ) → Option Asked
 match_by (rule ∷ file ∷ []) options None =
-    if is_some options.edition then None else Some (to_match rule file options.owns options.each options.why)
+    if options.trace || is_some options.edition then None else Some (to_match rule file options.owns options.each options.why)
 match_by (file ∷ []) options (Some expression) =
-    if options.why || is_some options.edition then None else Some (to_match_filter expression file options.owns options.each)
+    if options.why || options.trace || is_some options.edition then None else Some (to_match_filter expression file options.owns options.each)
 match_by _ options filter = None
 
 abbrev pub match_of : List (List ℕ) → Options → Option Asked
@@ -128,7 +133,7 @@ abbrev pub run_by : List (List ℕ) → Options → Option (List ℕ) → Option
 run_by (program ∷ file ∷ []) options None =
     if options.owns || options.why then None
     else if is_input program && is_input file then None
-    else Some (to_run program file (unwrap_or options.edition One) options.each)
+    else Some (to_run program file (unwrap_or options.edition One) options.each options.trace)
 run_by _ options filter = None
 
 abbrev pub run_of : List (List ℕ) → Options → Option Asked

@@ -16,7 +16,7 @@ names_of (One first) = first.now ∷ []
 names_of (Two first second) = first.now ∷ second.now ∷ []
 
 abbrev pub options_of : given.Options → Options
-options_of all = record { owns = all.owns; each = all.each; why = all.why; edition = all.edition; filter = option_map (λ word. word.now) all.filter }
+options_of all = record { owns = all.owns; each = all.each; why = all.why; trace = all.trace; edition = all.edition; filter = option_map (λ word. word.now) all.filter }
 
 abbrev pub gathering_of : Gathered → Gathering
 gathering_of all = record { names = names_of all.names; options = options_of all.options; awaited = all.awaited }
@@ -29,4 +29,4 @@ asked_by (Asm file) = to_asm file.now
 asked_by (Check file) = to_check file.now
 asked_by (Compile rule) = to_compile rule.now
 asked_by (CompileFilter expression) = to_compile_filter expression.now
-asked_by (Run program file edition each) = to_run program.now file.now edition each
+asked_by (Run program file edition each trace) = to_run program.now file.now edition each trace

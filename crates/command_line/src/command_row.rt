@@ -39,13 +39,14 @@ pub enum CommandRow<'a> {
     CompileFilter {
         filter: &'a str,
     },
-    /// `run PROGRAM FILE [--edition 1|2] [--each]`: what does the program say of the message in the file, or of each
-    /// message of the capture in it?
+    /// `run PROGRAM FILE [--edition 1|2] [--each] [--trace]`: what does the program say of the message in the file, or of
+    /// each message of the capture in it? And by which steps?
     Run {
         program: &'a str,
         file: &'a str,
         edition: Edition,
         each: bool,
+        trace: bool,
     },
 }
 

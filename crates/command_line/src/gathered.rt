@@ -40,7 +40,7 @@ impl<'a> Gathered<'a> {
     ghost use Rattle.std.specs.Prelude.{◌≡◌, map};
     ghost use Rattle.std.specs.Option.{option_map};
     ghost use Rattle.command_line.specs.Views.{asked_by, names_of, options_of, gathering_of};
-    ghost use Rattle.command_line.specs.RowReading.{no_words, with_name, with_owns, with_each, with_why, with_edition, with_edition_word, with_filter, with_filter_word, with_any, with_word, gather, match_of, compile_of, only_word, run_of};
+    ghost use Rattle.command_line.specs.RowReading.{no_words, with_name, with_owns, with_each, with_why, with_trace, with_edition, with_edition_word, with_filter, with_filter_word, with_any, with_word, gather, match_of, compile_of, only_word, run_of};
 
     fn nothing() -> Gathered<'a>
         ensures { gathering_of result ≡ no_words }
@@ -88,6 +88,7 @@ impl<'a> Gathered<'a> {
             "--owns" => self.with_owns(),
             "--each" => self.with_each(),
             "--why" => self.with_why(),
+            "--trace" => self.with_trace(),
             "--edition" => self.with_edition(),
             "--filter" => self.with_filter(),
             _ if is_option(word) => None,
@@ -129,6 +130,19 @@ impl<'a> Gathered<'a> {
         }
         let options = Options {
             why: true,
+            ..self.options
+        };
+        Some(Gathered { options, ..self })
+    }
+
+    fn with_trace(self) -> Option<Gathered<'a>>
+        ensures { option_map gathering_of result ≡ with_trace (gathering_of self.entry) }
+    {
+        if self.options.trace {
+            return None;
+        }
+        let options = Options {
+            trace: true,
             ..self.options
         };
         Some(Gathered { options, ..self })
@@ -206,10 +220,11 @@ impl<'a> Gathered<'a> {
             owns,
             each,
             why,
+            trace,
             ..
         } = self.options;
         match (self.names, self.options.filter) {
-            (Names::Two(rule, file), None) if self.options.edition.is_none() => {
+            (Names::Two(rule, file), None) if !trace && self.options.edition.is_none() => {
                 Some(CommandRow::Match {
                     rule,
                     file,
@@ -218,14 +233,15 @@ impl<'a> Gathered<'a> {
                     why,
                 })
             }
-            (Names::One(file), Some(filter)) if !why && self.options.edition.is_none() => {
-                Some(CommandRow::MatchFilter {
-                    filter,
-                    file,
-                    owns,
-                    each,
-                })
-            }
+            (Names::One(file), Some(filter)) if !why && !trace && self.options.edition.is_none() =>
+                {
+                    Some(CommandRow::MatchFilter {
+                        filter,
+                        file,
+                        owns,
+                        each,
+                    })
+                }
             _ => None,
         }
     }
@@ -262,6 +278,7 @@ impl<'a> Gathered<'a> {
             owns,
             each,
             why,
+            trace,
             edition,
             ..
         } = self.options;
@@ -275,6 +292,7 @@ impl<'a> Gathered<'a> {
                     file,
                     edition: edition.unwrap_or(Edition::One),
                     each,
+                    trace,
                 })
             }
             _ => None,

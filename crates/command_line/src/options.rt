@@ -8,6 +8,7 @@ pub(crate) struct Options<'a> {
     pub(crate) owns: bool,
     pub(crate) each: bool,
     pub(crate) why: bool,
+    pub(crate) trace: bool,
     pub(crate) edition: Option<Edition>,
     pub(crate) filter: Option<&'a str>,
 }
@@ -25,6 +26,7 @@ impl<'a> Options<'a> {
             owns: false,
             each: false,
             why: false,
+            trace: false,
             edition: None,
             filter: None,
         }
@@ -34,6 +36,6 @@ impl<'a> Options<'a> {
     pub(crate) fn are_plain(self) -> bool
         ensures { result ≡ are_plain (options_of self.entry) }
     {
-        !self.owns && !self.each && !self.why && self.edition.is_none()
+        !self.owns && !self.each && !self.why && !self.trace && self.edition.is_none()
     }
 }

@@ -165,7 +165,7 @@ says_as gave gives judge each said as_well (inl found) = inl (found.0, finds_as 
 says_as gave gives judge each said as_well (inr breaks) = inr (breaks.0, breaks.1, breaks.2, breaks_as as_well breaks.3, breaks.4)
 
 -- a program was read, and then the file
-pub ran_after : {F : Type 0} (gives : F → List ℕ → Content → F → Type 0) (before between after : F) (program file : List ℕ) (edition : Edition) (each : Bool) (code : List Ins) (said : Said) → Assembles (λ content. gives before program content between) (Ok code) → WellFormed code → SaysOfFile (λ next. gives between file next after) (by_program code edition) each said → Runs (MadeReads gives before after) program file edition each said
-ran_after gives before between after program file edition each code said reads fine says =
-    ran fine (says_as (λ next. gives between file next after) (λ next. Assembles (λ content. MadeReads gives before after (two_reads program content file next)) (Ok code)) (by_program code edition) each said
+pub ran_after : {F : Type 0} (gives : F → List ℕ → Content → F → Type 0) (before between after : F) (program file : List ℕ) (edition : Edition) (each trace : Bool) (code : List Ins) (said : Said) → Assembles (λ content. gives before program content between) (Ok code) → WellFormed code → SaysOfFile (λ next. gives between file next after) (by_program code edition trace) each said → Runs (MadeReads gives before after) program file edition each trace said
+ran_after gives before between after program file edition each trace code said reads fine says =
+    ran fine (says_as (λ next. gives between file next after) (λ next. Assembles (λ content. MadeReads gives before after (two_reads program content file next)) (Ok code)) (by_program code edition trace) each said
     (λ next second. assembled_as (λ content first. (between, first, second)) reads) says)

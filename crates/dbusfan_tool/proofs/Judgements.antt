@@ -1,8 +1,9 @@
 -- What a judge says of a message, from what its steps answer.
-use Rattle.std.proofs.Common.{◌≡◌, ℕ, Bool, List, [], Option, Some, None, refl, ap, subst, ◌∙◌}
+use Rattle.std.proofs.Common.{◌≡◌, ℕ, Bool, true, false, List, [], ◌++◌, Option, Some, None, refl, sym, ap, subst, ◌∙◌}
 use Rattle.std.specs.Prelude.{string_bytes}
 use Rattle.bpf_code.specs.declared.instruction.Ins.{Ins}
 use Rattle.bpf_code.specs.Steps.{Ends}
+use Rattle.bpf_trace.specs.Traces.{IsTrace}
 use Rattle.dbusfan_tool.specs.declared.judgement.Judgement.{Judgement}
 use Rattle.message_view.specs.Message.{Message}
 use Rattle.message_view.specs.Valid.{Valid}
@@ -12,7 +13,7 @@ use Rattle.summary.specs.declared.edition.Edition.TheVariants.{Two}
 use Rattle.summary.specs.ImageBytes.{image_bytes}
 use Rattle.dbusfan_tool.specs.declared.why.Why.{Why}
 use Rattle.dbusfan_tool.specs.declared.program_judge.ProgramJudge.{ProgramJudge}
-use Rattle.dbusfan_tool.specs.Judges.{Judge, by_rule, by_filter, by_program, no_slots, AreTold, AreToldIf, IsOutcome}
+use Rattle.dbusfan_tool.specs.Judges.{Judge, by_rule, by_filter, by_program, no_slots, AreTold, AreToldIf, IsTraceIf, IsOutcome}
 use Rattle.dbusfan_tool.specs.Serving.{Explains, TellsOf, Serves}
 use Rattle.dbusfan_tool.specs.Reports.{words_of}
 use Rattle.dbusfan_tool.proofs.Compiled.{agree}
@@ -33,9 +34,20 @@ none_told : (why : Option Why) (m : Message) (text : List ℕ) → why ≡ None 
 none_told None m text none tells = tells
 none_told (Some why) m text none tells = absurd (cc)
 
+-- the lines of the steps are told where they are wanted
+pub traced_if : (traces : Bool) (edition : Edition) (code : List Ins) (image : List ℕ) (v steps : ℕ) (old text lines : List ℕ) → traces ≡ true → IsTrace edition code image v steps lines → old ≡ [] → text ≡ old ++ lines → IsTraceIf traces edition code image v steps text
+traced_if false edition code image v steps old text lines wanted trace none adds = absurd (cc)
+traced_if true edition code image v steps old text lines wanted trace none adds =
+    let is : lines ≡ text = sym (adds ∙ ap (λ (front : List ℕ). front ++ lines) none) in
+    subst (λ (told : List ℕ). IsTrace edition code image v steps told) is trace
+
+pub untraced_if : (traces : Bool) (edition : Edition) (code : List Ins) (image : List ℕ) (v steps : ℕ) (text : List ℕ) → traces ≡ false → text ≡ [] → IsTraceIf traces edition code image v steps text
+untraced_if false edition code image v steps text unwanted none = none
+untraced_if true edition code image v steps text unwanted none = absurd (cc)
+
 -- the run of the judge's program
-pub of_outcome : (judge : Judge) (program_judge : ProgramJudge) (bytes : List ℕ) (m : Message) (image : List ℕ) (outcome : Judgement) → Serves judge program_judge → Valid bytes m → image ≡ image_bytes program_judge.edition m program_judge.slots → Ends program_judge.program image outcome.verdict outcome.steps → TellsOf program_judge.why m (string_bytes outcome.reasons) → IsOutcome judge bytes outcome
-of_outcome (by_rule tree owns front) program_judge bytes m image outcome serves valid is ends tells =
+pub of_outcome : (judge : Judge) (program_judge : ProgramJudge) (bytes : List ℕ) (m : Message) (image : List ℕ) (outcome : Judgement) → Serves judge program_judge → Valid bytes m → image ≡ image_bytes program_judge.edition m program_judge.slots → Ends program_judge.program image outcome.verdict outcome.steps → IsTraceIf program_judge.traces program_judge.edition program_judge.program image outcome.verdict outcome.steps (string_bytes outcome.trace) → TellsOf program_judge.why m (string_bytes outcome.reasons) → IsOutcome judge bytes outcome
+of_outcome (by_rule tree owns front) program_judge bytes m image outcome serves valid is ends traced tells =
     let in_second : image_bytes program_judge.edition m program_judge.slots ≡ image_bytes Two m program_judge.slots = ap (λ (e : Edition). image_bytes e m program_judge.slots) serves.3 in
     let ends : Ends program_judge.program (image_bytes Two m program_judge.slots) outcome.verdict outcome.steps = subst (λ (b : List ℕ). Ends program_judge.program b outcome.verdict outcome.steps) (is ∙ in_second) ends in (
       m,
@@ -43,7 +55,7 @@ of_outcome (by_rule tree owns front) program_judge bytes m image outcome serves 
       serves.0 bytes m program_judge.slots (λ name. owns) outcome.verdict outcome.steps valid serves.1 (agree tree (sender_name_of tree) owns program_judge.slots refl serves.2) ends,
       explained front tree owns program_judge.why m (string_bytes outcome.reasons) serves.5 tells,
     )
-of_outcome (by_filter tree owns) program_judge bytes m image outcome serves valid is ends tells =
+of_outcome (by_filter tree owns) program_judge bytes m image outcome serves valid is ends traced tells =
     let in_second : image_bytes program_judge.edition m program_judge.slots ≡ image_bytes Two m program_judge.slots = ap (λ (e : Edition). image_bytes e m program_judge.slots) serves.3 in
     let ends : Ends program_judge.program (image_bytes Two m program_judge.slots) outcome.verdict outcome.steps = subst (λ (b : List ℕ). Ends program_judge.program b outcome.verdict outcome.steps) (is ∙ in_second) ends in (
       m,
@@ -51,14 +63,22 @@ of_outcome (by_filter tree owns) program_judge bytes m image outcome serves vali
       serves.0 bytes m program_judge.slots (λ name. owns) outcome.verdict outcome.steps valid serves.1 serves.2 ends,
       none_told program_judge.why m (string_bytes outcome.reasons) serves.5 tells,
     )
-of_outcome (by_program code edition) program_judge bytes m image outcome serves valid is ends tells =
+of_outcome (by_program code edition wanted) program_judge bytes m image outcome serves valid is ends traced tells =
     let same : image_bytes program_judge.edition m program_judge.slots ≡ image_bytes edition m program_judge.slots = ap (λ (e : Edition). image_bytes e m program_judge.slots) serves.3 in
     let none : image_bytes edition m program_judge.slots ≡ image_bytes edition m no_slots = ap (λ (slots : List ℕ). image_bytes edition m slots) (none_is_zeros program_judge.slots serves.1 serves.2) in
     let ends : Ends program_judge.program (image_bytes edition m no_slots) outcome.verdict outcome.steps = subst (λ (b : List ℕ). Ends program_judge.program b outcome.verdict outcome.steps) (is ∙ same ∙ none) ends in
-    (m, valid, subst (λ (program : List Ins). Ends program (image_bytes edition m no_slots) outcome.verdict outcome.steps) serves.0 ends)
+    let trace : List ℕ = string_bytes outcome.trace in
+    let of_image : IsTraceIf program_judge.traces program_judge.edition program_judge.program (image_bytes edition m no_slots) outcome.verdict outcome.steps trace = subst (λ (b : List ℕ). IsTraceIf program_judge.traces program_judge.edition program_judge.program b outcome.verdict outcome.steps trace) (is ∙ same ∙ none) traced in
+    let of_edition : IsTraceIf program_judge.traces edition program_judge.program (image_bytes edition m no_slots) outcome.verdict outcome.steps trace = subst (λ (e : Edition). IsTraceIf program_judge.traces e program_judge.program (image_bytes edition m no_slots) outcome.verdict outcome.steps trace) serves.3 of_image in
+    let of_program : IsTraceIf program_judge.traces edition code (image_bytes edition m no_slots) outcome.verdict outcome.steps trace = subst (λ (program : List Ins). IsTraceIf program_judge.traces edition program (image_bytes edition m no_slots) outcome.verdict outcome.steps trace) serves.0 of_edition in (
+      m,
+      valid,
+      subst (λ (program : List Ins). Ends program (image_bytes edition m no_slots) outcome.verdict outcome.steps) serves.0 ends,
+      subst (λ (b : Bool). IsTraceIf b edition code (image_bytes edition m no_slots) outcome.verdict outcome.steps trace) serves.5 of_program,
+    )
 
 -- a judge has the words of who judges
 pub words_are : (judge : Judge) (program_judge : ProgramJudge) → Serves judge program_judge → program_judge.words ≡ words_of judge
 words_are (by_rule tree owns front) program_judge serves = serves.4
 words_are (by_filter tree owns) program_judge serves = serves.4
-words_are (by_program code edition) program_judge serves = serves.4
+words_are (by_program code edition traced) program_judge serves = serves.4

@@ -1,5 +1,5 @@
 -- Who judges messages, and what a judge says of bytes (own).
-use Rattle.std.specs.Prelude.{◌≡◌, ◌↔◌, ◌<◌, ℕ, Bool, List, [], replicate, Option, Some, None, string_bytes}
+use Rattle.std.specs.Prelude.{◌≡◌, ◌↔◌, ◌<◌, ℕ, Bool, true, false, List, [], replicate, Option, Some, None, string_bytes}
 use Rattle.bpf_code.specs.declared.instruction.Ins.{Ins}
 use Rattle.bpf_code.specs.Steps.{Ends}
 use Rattle.message_view.specs.Message.{Message}
@@ -10,16 +10,17 @@ use Rattle.filter.specs.FilterTree.{FilterTree}
 use Rattle.filter_compile.specs.Holds.{FilterHolds}
 use Rattle.summary.specs.declared.edition.Edition.{Edition}
 use Rattle.summary.specs.ImageBytes.{image_bytes}
+use Rattle.bpf_trace.specs.Traces.{IsTrace}
 use Rattle.rule_reasons.specs.Reasons.{AreAllReasons, after_fronts}
 use Rattle.dbusfan_tool.specs.declared.judgement.Judgement.{Judgement}
 
 -- a rule, whether each sender owns its name, and the text before each reason why the rule doesn't match, where reasons are
--- wanted; a filter, and whether each sender owns all names that it asks for; or a program, and the edition of images that it
--- is for
+-- wanted; a filter, and whether each sender owns all names that it asks for; or a program, the edition of images that it is
+-- for, and whether its steps are wanted
 pub data Judge : Type 0 where
   by_rule : (tree : RuleTree) (owns : Bool) (front : Option (List ℕ)) → Judge
   by_filter : (tree : FilterTree) (owns : Bool) → Judge
-  by_program : (code : List Ins) (edition : Edition) → Judge
+  by_program : (code : List Ins) (edition : Edition) (traced : Bool) → Judge
 
 -- the words of the set of no slots
 abbrev pub no_slots : List ℕ
@@ -34,9 +35,14 @@ abbrev pub AreToldIf : Option (List ℕ) → RuleTree → Message → Bool → L
 AreToldIf None tree m owns text = text ≡ []
 AreToldIf (Some front) tree m owns text = AreTold front tree m owns text
 
+-- the lines of a run's steps are told where they are wanted
+abbrev pub IsTraceIf : Bool → Edition → List Ins → List ℕ → ℕ → ℕ → List ℕ → Type 0
+IsTraceIf false edition code image v steps text = text ≡ []
+IsTraceIf true edition code image v steps text = IsTrace edition code image v steps text
+
 -- What is said of the message that bytes are. The verdict of a rule or a filter is 0 where it doesn't hold, and its steps say
 -- nothing; a program's verdict and steps are those of its run, where the sender owns no name.
 abbrev pub IsOutcome : Judge → List ℕ → Judgement → Type 0
 IsOutcome (by_rule tree owns front) bytes outcome = (m : Message) × Valid bytes m × ((0 < outcome.verdict) ↔ Holds tree m (λ name. owns)) × AreToldIf front tree m owns (string_bytes outcome.reasons)
 IsOutcome (by_filter tree owns) bytes outcome = (m : Message) × Valid bytes m × ((0 < outcome.verdict) ↔ FilterHolds tree m (λ name. owns)) × (string_bytes outcome.reasons ≡ [])
-IsOutcome (by_program code edition) bytes outcome = (m : Message) × Valid bytes m × Ends code (image_bytes edition m no_slots) outcome.verdict outcome.steps
+IsOutcome (by_program code edition traced) bytes outcome = (m : Message) × Valid bytes m × Ends code (image_bytes edition m no_slots) outcome.verdict outcome.steps × IsTraceIf traced edition code (image_bytes edition m no_slots) outcome.verdict outcome.steps (string_bytes outcome.trace)

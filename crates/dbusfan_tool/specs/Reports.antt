@@ -18,7 +18,7 @@ use Rattle.dbusfan_tool.specs.Answer.{Said}
 abbrev pub words_of : Judge → Wording
 words_of (by_rule tree owns front) = OfRule
 words_of (by_filter tree owns) = OfRule
-words_of (by_program code edition) = OfProgram
+words_of (by_program code edition traced) = OfProgram
 
 -- that the rule or the filter doesn't match, and why
 abbrev pub no_match_line : List ℕ → List ℕ
@@ -29,13 +29,18 @@ abbrev pub outcome_line : Wording → Judgement → List ℕ
 outcome_line OfRule outcome = if outcome.verdict == 0 then no_match_line (string_bytes outcome.reasons) else codes "match" ++ line_end
 outcome_line OfProgram outcome = codes "verdict " ++ decimal outcome.verdict ++ codes " steps " ++ decimal outcome.steps ++ line_end
 
+-- the lines of a program's steps, which are none where they aren't wanted
+abbrev pub trace_lines : Wording → Judgement → List ℕ
+trace_lines OfRule outcome = []
+trace_lines OfProgram outcome = string_bytes outcome.trace
+
 -- a message alone: the status is 0 where it is accepted, else 1
 abbrev pub said_of_outcome : Wording → Judgement → Said
-said_of_outcome words outcome = record { lines = []; output = outcome_line words outcome; error = []; status = if outcome.verdict == 0 then 1 else 0 }
+said_of_outcome words outcome = record { lines = []; output = trace_lines words outcome ++ outcome_line words outcome; error = []; status = if outcome.verdict == 0 then 1 else 0 }
 
--- on standard output: a message's number and what is said of it
+-- on standard output: a message's number and what is said of it, after the lines of the steps
 abbrev pub verdict_line : Wording → ℕ → Finding → List ℕ
-verdict_line words number (Judged outcome) = decimal number ++ codes " " ++ outcome_line words outcome
+verdict_line words number (Judged outcome) = trace_lines words outcome ++ (decimal number ++ codes " " ++ outcome_line words outcome)
 verdict_line words number Cut = []
 verdict_line words number (NoMessage fault) = []
 

@@ -27,4 +27,4 @@ TellsOf (Some why) m text = AreTold why.front.now why.rule m why.owns text
 abbrev pub Serves : Judge → ProgramJudge → Type 0
 Serves (by_rule tree owns front) program_judge = IsCompiled tree (slot_for tree) program_judge.program × IsSet program_judge.slots × (has_slot program_judge.slots 0 ≡ owns) × (program_judge.edition ≡ Two) × (program_judge.words ≡ OfRule) × Explains front tree owns program_judge.why
 Serves (by_filter tree owns) program_judge = IsCompiledFilter tree program_judge.program × IsSet program_judge.slots × AgreeOn tree (λ name. owns) program_judge.slots × (program_judge.edition ≡ Two) × (program_judge.words ≡ OfRule) × (program_judge.why ≡ None)
-Serves (by_program code edition) program_judge = (program_judge.program ≡ code) × IsSet program_judge.slots × ((slot : ℕ) → has_slot program_judge.slots slot ≡ false) × (program_judge.edition ≡ edition) × (program_judge.words ≡ OfProgram)
+Serves (by_program code edition traced) program_judge = (program_judge.program ≡ code) × IsSet program_judge.slots × ((slot : ℕ) → has_slot program_judge.slots slot ≡ false) × (program_judge.edition ≡ edition) × (program_judge.words ≡ OfProgram) × (program_judge.traces ≡ traced)

@@ -38,9 +38,9 @@ pub data MatchesFilter (reads : List FileRead → Type 0) (expression file : Lis
 -- What `run` says for what was read. All faults of the program come before those of the other file: that a file can't be
 -- read, then its text's, then that of what the text says. The program's file is read first and once, and the other file
 -- once, only after a program that is accepted.
-pub data Runs (reads : List FileRead → Type 0) (program file : List ℕ) (edition : Edition) (each : Bool) : Said → Type 0 where
-  no_program : {fault : Fault} → Checks (λ content. reads (one_read program content)) (Err fault) → Runs reads program file edition each (failing fault)
-  ran : {code : List Ins} {said : Said} → WellFormed code → SaysOfFile (λ next. Assembles (λ content. reads (two_reads program content file next)) (Ok code)) (by_program code edition) each said → Runs reads program file edition each said
+pub data Runs (reads : List FileRead → Type 0) (program file : List ℕ) (edition : Edition) (each trace : Bool) : Said → Type 0 where
+  no_program : {fault : Fault} → Checks (λ content. reads (one_read program content)) (Err fault) → Runs reads program file edition each trace (failing fault)
+  ran : {code : List Ins} {said : Said} → WellFormed code → SaysOfFile (λ next. Assembles (λ content. reads (two_reads program content file next)) (Ok code)) (by_program code edition trace) each said → Runs reads program file edition each trace said
 
 -- What is said to a row, where `reads` says of a list of reads that these were made, in this order, and no others.
 abbrev pub Tool : (List FileRead → Type 0) → Asked → Said → Type 0
@@ -50,7 +50,7 @@ Tool reads (to_asm file) said = (found : Result (List Ins) Fault) × Assembles (
 Tool reads (to_check file) said = (found : Result ℕ Fault) × Checks (λ content. reads (one_read file content)) found × (said ≡ said_of said_of_check found)
 Tool reads (to_compile rule) said = (found : Result (List ℕ) Fault) × Compiles rule found × reads [] × (said ≡ said_of saying found)
 Tool reads (to_compile_filter expression) said = (found : Result (List ℕ) Fault) × CompilesFilter expression found × reads [] × (said ≡ said_of saying found)
-Tool reads (to_run program file edition each) said = Runs reads program file edition each said
+Tool reads (to_run program file edition each trace) said = Runs reads program file edition each trace said
 
 -- what the words allow is said, or that memory was short
 abbrev pub Says : (Said → Type 0) → (Said → Type 0) → Type 0

@@ -80,8 +80,9 @@ fn answer<'a, F: Files, O: Writer>(
                 file,
                 edition,
                 each,
+                trace,
             },
-        ) => running::answer(alloc, program, file, edition, each, files, out),
+        ) => running::answer(alloc, program, file, edition, each, trace, files, out),
         None => help::answer(alloc, words),
     }
 }

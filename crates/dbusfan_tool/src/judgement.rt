@@ -7,4 +7,6 @@ pub(crate) struct Judgement {
     pub(crate) steps: u32,
     /// A line for each reason, what comes before it included.
     pub(crate) reasons: String,
+    /// The lines of the steps of a program, where they are wanted.
+    pub(crate) trace: String,
 }

@@ -1,6 +1,7 @@
 // What judges messages.
 
 ghost use Rattle.std.specs.Prelude.{◌≡◌, Bool, IfOk, option_map, string_bytes};
+ghost use Rattle.bpf_code.specs.Steps.{Ends};
 ghost use Rattle.message_view.specs.Message.{Message};
 ghost use Rattle.message_view.specs.Valid.{Valid};
 ghost use Rattle.summary.specs.Sets.{has_slot, IsSet};
@@ -8,7 +9,7 @@ ghost use Rattle.rule_compile.specs.Compiled.{IsCompiled};
 ghost use Rattle.dbusfan_tool.specs.Compiling.{slot_for};
 ghost use Rattle.filter.specs.FilterTree.{FilterTree};
 ghost use Rattle.filter_compile.specs.Compiled.{AgreeOn, IsCompiled as IsCompiledFilter};
-ghost use Rattle.dbusfan_tool.specs.Judges.{Judge, by_rule, by_filter, by_program, IsOutcome};
+ghost use Rattle.dbusfan_tool.specs.Judges.{Judge, by_rule, by_filter, by_program, IsTraceIf, IsOutcome};
 ghost use Rattle.dbusfan_tool.specs.Serving.{Serves, TellsOf};
 
 use crate::compiling::SENDER_SLOT;
@@ -16,6 +17,7 @@ use crate::judgement::Judgement;
 use crate::why::Why;
 use crate::wording::Wording;
 use bpf_machine::{Outcome, run};
+use bpf_trace::push_trace;
 use bpf_verify::Verified;
 use match_rule::Rule;
 use message_view::View;
@@ -30,6 +32,14 @@ pub(crate) struct ProgramJudge {
     edition: Edition,
     pub(crate) words: Wording,
     why: Option<Why>,
+    traces: bool,
+}
+
+/// How a run ended, and the lines of its steps where they are wanted.
+#[derive(Drop)]
+struct Ran {
+    outcome: Outcome,
+    trace: String,
 }
 
 impl ProgramJudge {
@@ -50,6 +60,7 @@ impl ProgramJudge {
             edition: Edition::Two,
             words: Wording::OfRule,
             why: Why::of(rule, owns, front),
+            traces: false,
         }
     }
 
@@ -64,12 +75,13 @@ impl ProgramJudge {
             edition,
             words: Wording::OfRule,
             why: None,
+            traces: false,
         }
     }
 
-    /// The judge that a program is, for images of an edition.
-    pub(crate) fn of_program(program: Verified, edition: Edition) -> ProgramJudge
-        ensures { Serves (by_program program edition) result }
+    /// The judge that a program is, for images of an edition, and whether its steps are wanted.
+    pub(crate) fn of_program(program: Verified, edition: Edition, traces: bool) -> ProgramJudge
+        ensures { Serves (by_program program edition traces) result }
     {
         let none = Slots::empty();
         ProgramJudge {
@@ -78,6 +90,7 @@ impl ProgramJudge {
             edition,
             words: Wording::OfProgram,
             why: None,
+            traces,
         }
     }
 
@@ -86,13 +99,29 @@ impl ProgramJudge {
         ensures { IfOk result (λ judgement. (judge : Judge) (m : Message) → Serves judge self.now → Valid message.now m → IsOutcome judge message.now judgement) }
     {
         let image = Image::new(message, &self.slots, self.edition);
-        let Outcome { verdict, steps } = run(&self.program, &image);
+        let ran = self.run(alloc, &image)?;
         let reasons = self.reasons(alloc, message)?;
+        let Ran { outcome, trace } = ran;
         Ok(Judgement {
-            verdict,
-            steps,
+            verdict: outcome.verdict,
+            steps: outcome.steps,
             reasons,
+            trace,
         })
+    }
+
+    /// How the program's run ends, and by which steps where they are wanted.
+    fn run(&self, alloc: Global, image: &Image<'_>) -> Result<Ran, AllocError>
+        ensures ends { IfOk result (λ ran. Ends self.now.program image.now ran.outcome.verdict ran.outcome.steps) }
+        ensures traced { IfOk result (λ ran. IsTraceIf self.now.traces self.now.edition self.now.program image.now ran.outcome.verdict ran.outcome.steps (string_bytes ran.trace)) }
+    {
+        let mut trace = String::new(alloc);
+        if self.traces {
+            let outcome = push_trace(alloc, &mut trace, self.edition, &self.program, image)?;
+            return Ok(Ran { outcome, trace });
+        }
+        let outcome = run(&self.program, image);
+        Ok(Ran { outcome, trace })
     }
 
     /// Why a message isn't accepted, where that is wanted.

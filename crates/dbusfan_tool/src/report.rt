@@ -1,7 +1,7 @@
 // How it is said what is found of messages.
 
 ghost use Rattle.std.specs.Prelude.{◌≡◌, ◌⊎◌, ◌++◌, IfOk, OnOk, string_bytes};
-ghost use Rattle.dbusfan_tool.specs.Reports.{no_match_line, outcome_line, said_of_outcome, verdict_line, note_line, count_line, summary_line, last_line, passed_over_line, capture_line, capture_status};
+ghost use Rattle.dbusfan_tool.specs.Reports.{no_match_line, outcome_line, trace_lines, said_of_outcome, verdict_line, note_line, count_line, summary_line, last_line, passed_over_line, capture_line, capture_status};
 ghost use Rattle.dbusfan_tool.specs.Answer.{failing};
 ghost use Rattle.dbusfan_tool.specs.Views.{said_by};
 
@@ -19,13 +19,30 @@ pub(crate) fn answer_of_outcome(alloc: Global, words: Wording, outcome: &Judgeme
     ensures { (said_by result ≡ said_of_outcome words outcome.now) ⊎ (said_by result ≡ failing Fault.Memory) }
 {
     let mut output = String::new(alloc);
-    match put_outcome(&mut output, words, outcome) {
+    match put_told(&mut output, words, outcome) {
         Ok(()) => Answer::Report {
             output,
             notes: String::new(alloc),
             status: if outcome.verdict == 0 { 1 } else { 0 },
         },
         Err(_) => Answer::Fault(Fault::Memory),
+    }
+}
+
+/// Writes the lines of the steps, and what is said of the message.
+fn put_told(text: &mut String, words: Wording, outcome: &Judgement) -> Result<(), AllocError>
+    ensures { OnOk result (string_bytes text.new ≡ string_bytes text.old ++ (trace_lines words outcome.now ++ outcome_line words outcome.now)) }
+{
+    put_trace(text, words, outcome)?;
+    put_outcome(text, words, outcome)
+}
+
+fn put_trace(text: &mut String, words: Wording, outcome: &Judgement) -> Result<(), AllocError>
+    ensures { OnOk result (string_bytes text.new ≡ string_bytes text.old ++ trace_lines words outcome.now) }
+{
+    match words {
+        Wording::OfRule => Ok(()),
+        Wording::OfProgram => text.push_str(outcome.trace.as_str()),
     }
 }
 
@@ -60,6 +77,7 @@ pub(crate) fn put_verdict_line(
 {
     match finding {
         Finding::Judged(outcome) => {
+            put_trace(text, words, outcome)?;
             write!(text, "{number} ")?;
             put_outcome(text, words, outcome)
         }

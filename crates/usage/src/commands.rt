@@ -94,7 +94,7 @@ pub(crate) static COMMANDS: [CommandHelp; 7] = [
     CommandHelp {
         name: "run",
         about: "Runs a program on a message, or on each of a capture",
-        arguments: &[PROGRAM, MESSAGE, EDITION, EACH],
+        arguments: &[PROGRAM, MESSAGE, EDITION, EACH, TRACE],
     },
     CommandHelp {
         name: "serve",
@@ -373,6 +373,13 @@ const WHY: ArgumentHelp = ArgumentHelp {
     form: Form::Flag,
     is_required: false,
     text: "Says of a message that doesn't match which conditions don't hold, and what it has there",
+};
+
+const TRACE: ArgumentHelp = ArgumentHelp {
+    name: "trace",
+    form: Form::Flag,
+    is_required: false,
+    text: "Prints the steps too, one a line: the instruction, A, X, scratch words, and what a load reads",
 };
 
 const PROGRAM: ArgumentHelp = ArgumentHelp {

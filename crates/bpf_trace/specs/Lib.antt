@@ -1,0 +1,4 @@
+pub mod ImageWords
+pub mod Lines
+pub mod Traces
+pub mod Views
