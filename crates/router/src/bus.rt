@@ -146,22 +146,20 @@ impl<B: BusBrand, M: Mailbox, R: Wait + Drop> Bus<B, M, R> {
     pub fn reader(&self, rt: &impl Wait) -> Result<StateReader<B, M>, BusError>
         ensures { IfErr result (λ error. error ≡ BusError.Busy) }
     {
-        let kept = self.kept.lock(rt).take();
-        if let Some(mut pass) = kept
-            && let Some(reader) = pass.reclaim()
-        {
-            return Ok(reader);
+        let kept = self.kept.lock(rt).take_reader();
+        match kept {
+            Some(reader) => Ok(reader),
+            None => self.control(rt).reader(),
         }
-        self.control(rt).reader()
     }
 
     /// Keeps the reader of a pass that is closed or was never connected, if it has one, for a later pass, or drops it where 256
     /// are kept.
-    pub fn take_back(&self, rt: &impl Wait, pass: Pass<B, M>)
+    pub fn take_back(&self, rt: &impl Wait, mut pass: Pass<B, M>)
         requires { (pass.is_closed ≡ true) ⊎ (pass.connection ≡ 0) }
     {
-        if pass.has_reader() {
-            self.kept.lock(rt).put(pass);
+        if let Some(reader) = pass.reclaim() {
+            self.kept.lock(rt).put(pass, reader);
         }
     }
 
