@@ -9,7 +9,7 @@ use Rattle.captures.specs.declared.error.CaptureError.{CaptureError}
 use Rattle.captures.specs.declared.error.CaptureError.TheVariants as faults
 use Rattle.captures.specs.declared.block.Framing.{Framing}
 use Rattle.captures.specs.declared.block.Framing.TheVariants.{Wants, Whole}
-use Rattle.captures.specs.declared.block.TheConstants.{SECTION}
+use Rattle.captures.specs.Standard.{section_type}
 use Rattle.captures.specs.Numbers.{half, word}
 use Rattle.captures.specs.Blocks.{kind_of, order_of, is_block_len, block_at, block_in, framing_at}
 use Rattle.captures.proofs.Choices.{both_true, Stays, stays_where_same, stays_past}
@@ -86,8 +86,8 @@ framing_stays order bytes more =
     stays_past is_framed (nat_lt (length bytes) 8) _ _ _ _ refl (still_enough bytes more 8) (λ (enough : nat_lt (length bytes) 8 ≡ false).
     let eight : 8 ≤ length bytes = ltb-false (length bytes) 8 enough in
     let first : word Big (bytes ++ more) 0 ≡ word Big bytes 0 = same_word Big bytes more 0 (omega arith) in
-    let test : (not (word Big (bytes ++ more) 0 == SECTION)) ≡ (not (word Big bytes 0 == SECTION)) = ap (λ (w : ℕ). not (w == SECTION)) first in
-    stays_where_same is_framed (not (word Big bytes 0 == SECTION)) _ _ _ _ _ test (λ _. block_at_stays order bytes more eight) (λ _.
+    let test : (not (word Big (bytes ++ more) 0 == section_type)) ≡ (not (word Big bytes 0 == section_type)) = ap (λ (w : ℕ). not (w == section_type)) first in
+    stays_where_same is_framed (not (word Big bytes 0 == section_type)) _ _ _ _ _ test (λ _. block_at_stays order bytes more eight) (λ _.
     stays_past is_framed (nat_lt (length bytes) 12) _ _ _ _ refl (still_enough bytes more 12) (λ (enough : nat_lt (length bytes) 12 ≡ false).
     let le : 12 ≤ length bytes = ltb-false (length bytes) 12 enough in
     let magic : word Big (bytes ++ more) 8 ≡ word Big bytes 8 = same_word Big bytes more 8 le in

@@ -8,7 +8,7 @@ use Rattle.captures.specs.declared.order.Order.TheVariants.{Big}
 use Rattle.captures.specs.declared.error.CaptureError.{CaptureError}
 use Rattle.captures.specs.declared.block.Block.{Block}
 use Rattle.captures.specs.declared.block.Framing.{Framing}
-use Rattle.captures.specs.declared.block.TheConstants.{SECTION}
+use Rattle.captures.specs.Standard.{section_type}
 use Rattle.captures.specs.Numbers.{word}
 use Rattle.captures.specs.Blocks.{order_of, is_block_len, block_at, block_in, framing_at, body_of}
 use Rattle.captures.specs.BlockLengths.{IsFramed}
@@ -41,7 +41,7 @@ pub framing_there : (order : Order) (bytes : List ℕ) → IfOk (framing_at orde
 framing_there order bytes =
     let P : Result Framing CaptureError → Type 0 = λ r. IfOk r (IsFramed bytes) in
     either_has P (nat_lt (length bytes) 8) _ _ (λ few. (ltb-true (length bytes) 8 few, lit≤ tt)) (λ _.
-    either_has P (not (word Big bytes 0 == SECTION)) _ _ (λ _. block_at_there order bytes) (λ _.
+    either_has P (not (word Big bytes 0 == section_type)) _ _ (λ _. block_at_there order bytes) (λ _.
     either_has P (nat_lt (length bytes) 12) _ _ (λ few. (ltb-true (length bytes) 12 few, lit≤ tt)) (λ _.
     block_in_there bytes (order_of (word Big bytes 8)))))
 

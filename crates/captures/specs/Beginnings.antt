@@ -3,8 +3,7 @@ use Rattle.std.specs.Prelude.{ℕ, Bool, true, false, not, List, length, Option,
 use Rattle.captures.specs.declared.order.Order.TheVariants.{Big}
 use Rattle.captures.specs.declared.magic.Magic.{Magic}
 use Rattle.captures.specs.declared.magic.Magic.TheVariants as magics
-use Rattle.captures.specs.declared.magic.TheConstants.{MAGIC_LEN}
-use Rattle.captures.specs.declared.block.TheConstants.{MAGIC_END}
+use Rattle.captures.specs.Standard.{magic_end, magic_len}
 use Rattle.captures.specs.Numbers.{word}
 use Rattle.captures.specs.Pcap.{magic_of}
 use Rattle.captures.specs.Blocks.{order_of}
@@ -13,7 +12,7 @@ use Rattle.captures.specs.Blocks.{order_of}
 abbrev pub begins_as : Option Magic → List ℕ → Bool
 begins_as None bytes = false
 begins_as (Some (magics.Pcap order unit)) bytes = true
-begins_as (Some magics.Pcapng) bytes = not (nat_lt (length bytes) MAGIC_END) && is_some (order_of (word Big bytes 8))
+begins_as (Some magics.Pcapng) bytes = not (nat_lt (length bytes) magic_end) && is_some (order_of (word Big bytes 8))
 
 abbrev pub is_capture : List ℕ → Bool
-is_capture bytes = if nat_lt (length bytes) MAGIC_LEN then false else begins_as (magic_of (word Big bytes 0)) bytes
+is_capture bytes = if nat_lt (length bytes) magic_len then false else begins_as (magic_of (word Big bytes 0)) bytes

@@ -4,9 +4,8 @@ use Rattle.captures.specs.declared.error.CaptureError.{CaptureError}
 use Rattle.captures.specs.declared.error.CaptureError.TheVariants as faults
 use Rattle.captures.specs.declared.step.Step.{Step}
 use Rattle.captures.specs.declared.block.Block.{Block}
-use Rattle.captures.specs.declared.block.TheConstants.{BLOCK_HEADER_LEN}
 use Rattle.captures.specs.declared.interface.Interface.{Interface}
-use Rattle.captures.specs.declared.block_packet.TheConstants.{TIMED_LEN, UNTIMED_LEN}
+use Rattle.captures.specs.Standard.{block_header_len, timed_len, untimed_len}
 use Rattle.captures.specs.Numbers.{half, word}
 use Rattle.captures.specs.Options.{nanoseconds_in}
 use Rattle.captures.specs.Interfaces.{kept_len, step_with}
@@ -14,7 +13,7 @@ use Rattle.captures.specs.Interfaces.{kept_len, step_with}
 -- the packet of an interface, after `front` bytes of a block's body, if the body has as many bytes as are captured
 abbrev pub packet_after : ℕ → Interface → Block → List ℕ → Option ℕ → ℕ → ℕ → Result Step CaptureError
 packet_after front interface block body time captured original =
-    let start = BLOCK_HEADER_LEN + front in
+    let start = block_header_len + front in
     if nat_lt (length body - front) captured then Err faults.RecordLength
     else Ok (step_with interface (record { len = block.len; start = start; end = start + captured; time = time; is_cut = nat_lt captured original }))
 
@@ -23,7 +22,7 @@ packet_after front interface block body time captured original =
 abbrev pub of_interface : Option Interface → Block → List ℕ → Result Step CaptureError
 of_interface None block body = Err faults.Interface
 of_interface (Some interface) block body =
-    packet_after TIMED_LEN interface block body (nanoseconds_in interface.times (word block.order body 4) (word block.order body 8)) (word block.order body 12) (word block.order body 16)
+    packet_after timed_len interface block body (nanoseconds_in interface.times (word block.order body 4) (word block.order body 8)) (word block.order body 12) (word block.order body 16)
 
 abbrev pub timed_packet : List Interface → ℕ → Block → List ℕ → Result Step CaptureError
 timed_packet interfaces number block body = of_interface (slice_get interfaces number) block body
@@ -31,19 +30,19 @@ timed_packet interfaces number block body = of_interface (slice_get interfaces n
 -- the interface's number is a word ("Enhanced Packet Block")
 abbrev pub enhanced_packet : List Interface → Block → List ℕ → Result Step CaptureError
 enhanced_packet interfaces block body =
-    if nat_lt (length body) TIMED_LEN then Err faults.BlockLength else timed_packet interfaces (word block.order body 0) block body
+    if nat_lt (length body) timed_len then Err faults.BlockLength else timed_packet interfaces (word block.order body 0) block body
 
 -- the interface's number is two bytes, and two count dropped packets ("Packet Block")
 abbrev pub obsolete_packet : List Interface → Block → List ℕ → Result Step CaptureError
 obsolete_packet interfaces block body =
-    if nat_lt (length body) TIMED_LEN then Err faults.BlockLength else timed_packet interfaces (half block.order body 0) block body
+    if nat_lt (length body) timed_len then Err faults.BlockLength else timed_packet interfaces (half block.order body 0) block body
 
 -- the original length, and as much of the packet as the first interface keeps ("Simple Packet Block")
 abbrev pub of_first : Option Interface → Block → List ℕ → Result Step CaptureError
 of_first None block body = Err faults.Interface
 of_first (Some interface) block body =
-    packet_after UNTIMED_LEN interface block body None (kept_len interface (word block.order body 0)) (word block.order body 0)
+    packet_after untimed_len interface block body None (kept_len interface (word block.order body 0)) (word block.order body 0)
 
 abbrev pub simple_packet : List Interface → Block → List ℕ → Result Step CaptureError
 simple_packet interfaces block body =
-    if nat_lt (length body) UNTIMED_LEN then Err faults.BlockLength else of_first (slice_get interfaces 0) block body
+    if nat_lt (length body) untimed_len then Err faults.BlockLength else of_first (slice_get interfaces 0) block body

@@ -6,10 +6,9 @@ use Rattle.captures.specs.declared.error.CaptureError.TheVariants as faults
 use Rattle.captures.specs.declared.step.Packet.{Packet}
 use Rattle.captures.specs.declared.step.Step.{Step}
 use Rattle.captures.specs.declared.step.Step.TheVariants.{Message, Other}
-use Rattle.captures.specs.declared.step.TheConstants.{LINKTYPE_DBUS}
 use Rattle.captures.specs.declared.times.Times.{Times}
 use Rattle.captures.specs.declared.interface.Interface.{Interface}
-use Rattle.captures.specs.declared.interface.TheConstants.{INTERFACE_LEN}
+use Rattle.captures.specs.Standard.{interface_len, linktype_dbus}
 use Rattle.captures.specs.Numbers.{half, word}
 use Rattle.captures.specs.Options.{usual, times_from}
 
@@ -20,8 +19,8 @@ with_times link_type snap_len (Ok times) = Ok (record { link_type = link_type; s
 -- a body: the link type, two bytes that say nothing, the snap length, and options
 abbrev pub interface_of : Order → List ℕ → Result Interface CaptureError
 interface_of order body =
-    if nat_lt (length body) INTERFACE_LEN then Err faults.BlockLength
-    else with_times (half order body 0) (word order body 4) (times_from order usual 0 (drop INTERFACE_LEN body))
+    if nat_lt (length body) interface_len then Err faults.BlockLength
+    else with_times (half order body 0) (word order body 4) (times_from order usual 0 (drop interface_len body))
 
 -- how many bytes of a packet of this length are kept; the snap length 0 says all ("SnapLen")
 abbrev pub kept_len : Interface → ℕ → ℕ
@@ -29,4 +28,4 @@ kept_len interface original = if interface.snap_len == 0 || nat_lt original inte
 
 -- a packet of an interface is of D-Bus where its link type says so (own)
 abbrev pub step_with : Interface → Packet → Step
-step_with interface packet = if interface.link_type == LINKTYPE_DBUS then Message packet else Other packet.len interface.link_type
+step_with interface packet = if interface.link_type == linktype_dbus then Message packet else Other packet.len interface.link_type

@@ -1,3 +1,4 @@
+pub mod Standard
 pub mod Beginnings
 pub mod BlockLengths
 pub mod BlockPackets

@@ -6,14 +6,12 @@ use Rattle.captures.specs.declared.error.CaptureError.{CaptureError}
 use Rattle.captures.specs.declared.error.CaptureError.TheVariants as faults
 use Rattle.captures.specs.declared.step.Step.{Step}
 use Rattle.captures.specs.declared.step.Step.TheVariants.{Message, More}
-use Rattle.captures.specs.declared.step.TheConstants.{LINKTYPE_DBUS, MAX_PACKET_LEN}
+use Rattle.captures.specs.declared.step.TheConstants.{MAX_PACKET_LEN}
 use Rattle.captures.specs.declared.pcap.TimeUnit.{TimeUnit}
 use Rattle.captures.specs.declared.pcap.TimeUnit.TheVariants.{Micro, Nano}
-use Rattle.captures.specs.declared.pcap.TheConstants.{RECORD_HEADER_LEN, VERSION_MAJOR, VERSION_MINOR, LINK_TYPES, NANOS_PER_SECOND}
 use Rattle.captures.specs.declared.magic.Magic.{Magic}
 use Rattle.captures.specs.declared.magic.Magic.TheVariants as magics
-use Rattle.captures.specs.declared.magic.TheConstants.{BIG_MICRO, LITTLE_MICRO, BIG_NANO, LITTLE_NANO}
-use Rattle.captures.specs.declared.block.TheConstants.{SECTION}
+use Rattle.captures.specs.Standard.{big_micro, big_nano, link_types, linktype_dbus, little_micro, little_nano, nanos_per_second, record_header_len, section_type, version_major, version_minor}
 use Rattle.captures.specs.Numbers.{half, word}
 
 -- how many nanoseconds a unit of the fractions is (section 4, "Magic Number")
@@ -25,22 +23,22 @@ nanoseconds Nano = 1
 -- (section 4, "Magic Number"), or that a section begins (draft-ietf-opsawg-pcapng, "Section Header Block").
 abbrev pub magic_of : ℕ → Option Magic
 magic_of number =
-    if number == BIG_MICRO then Some (magics.Pcap Big Micro)
-    else if number == LITTLE_MICRO then Some (magics.Pcap Little Micro)
-    else if number == BIG_NANO then Some (magics.Pcap Big Nano)
-    else if number == LITTLE_NANO then Some (magics.Pcap Little Nano)
-    else if number == SECTION then Some magics.Pcapng
+    if number == big_micro then Some (magics.Pcap Big Micro)
+    else if number == little_micro then Some (magics.Pcap Little Micro)
+    else if number == big_nano then Some (magics.Pcap Big Nano)
+    else if number == little_nano then Some (magics.Pcap Little Nano)
+    else if number == section_type then Some magics.Pcapng
     else None
 
 -- the link type, in the low 28 bits of the header's last word (section 4, "LinkType")
 abbrev pub link_type : Order → List ℕ → ℕ
-link_type order bytes = word order bytes 20 % LINK_TYPES
+link_type order bytes = word order bytes 20 % link_types
 
 -- what is wrong with a file's header (section 4, "General File Structure")
 abbrev pub header_fault : Order → List ℕ → Option CaptureError
 header_fault order bytes =
-    if not (half order bytes 4 == VERSION_MAJOR && half order bytes 6 == VERSION_MINOR) then Some faults.Version
-    else if not (link_type order bytes == LINKTYPE_DBUS) then Some (faults.LinkType (link_type order bytes))
+    if not (half order bytes 4 == version_major && half order bytes 6 == version_minor) then Some faults.Version
+    else if not (link_type order bytes == linktype_dbus) then Some (faults.LinkType (link_type order bytes))
     else None
 
 -- The words of a record before its packet (section 5, "Packet Record").
@@ -59,14 +57,14 @@ original_len order bytes = word order bytes 12
 -- the record that bytes begin with (section 5, "Packet Record")
 abbrev pub record_at : Order → TimeUnit → List ℕ → Result Step CaptureError
 record_at order unit bytes =
-    let len = RECORD_HEADER_LEN + captured_len order bytes in
-    if nat_lt (length bytes) RECORD_HEADER_LEN then Ok (More RECORD_HEADER_LEN)
+    let len = record_header_len + captured_len order bytes in
+    if nat_lt (length bytes) record_header_len then Ok (More record_header_len)
     else if nat_lt MAX_PACKET_LEN (captured_len order bytes) then Err faults.RecordLength
     else if nat_lt (length bytes) len then Ok (More len)
     else Ok (Message (record {
       len = len;
-      start = RECORD_HEADER_LEN;
+      start = record_header_len;
       end = len;
-      time = Some (seconds order bytes * NANOS_PER_SECOND + fraction order bytes * nanoseconds unit);
+      time = Some (seconds order bytes * nanos_per_second + fraction order bytes * nanoseconds unit);
       is_cut = nat_lt (captured_len order bytes) (original_len order bytes);
     }))

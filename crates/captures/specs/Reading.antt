@@ -8,9 +8,7 @@ use Rattle.captures.specs.declared.step.Step.{Step}
 use Rattle.captures.specs.declared.step.Step.TheVariants.{Skip, More}
 use Rattle.captures.specs.declared.magic.Magic.{Magic}
 use Rattle.captures.specs.declared.magic.Magic.TheVariants as magics
-use Rattle.captures.specs.declared.magic.TheConstants.{MAGIC_LEN}
 use Rattle.captures.specs.declared.pcap.TimeUnit.{TimeUnit}
-use Rattle.captures.specs.declared.pcap.TheConstants.{FILE_HEADER_LEN}
 use Rattle.captures.specs.declared.block.Block.{Block}
 use Rattle.captures.specs.declared.block.BlockKind.{BlockKind}
 use Rattle.captures.specs.declared.block.BlockKind.TheVariants as kinds
@@ -20,6 +18,7 @@ use Rattle.captures.specs.declared.interface.Interface.{Interface}
 use Rattle.captures.specs.declared.packets.Format.{Format}
 use Rattle.captures.specs.declared.packets.Format.TheVariants as formats
 use Rattle.captures.specs.declared.packets.TheConstants.{MAX_INTERFACES}
+use Rattle.captures.specs.Standard.{file_header_len, magic_len}
 use Rattle.captures.specs.Numbers.{word}
 use Rattle.captures.specs.Pcap.{magic_of, header_fault, record_at}
 use Rattle.captures.specs.Blocks.{framing_at, body_of, section_fault}
@@ -78,8 +77,8 @@ block_step reading bytes (Ok (Whole block)) = body_step block.kind reading block
 -- the header of a pcap file
 abbrev pub header_step : Reading → Order → TimeUnit → List ℕ → Result Progress CaptureError
 header_step reading order unit bytes =
-    if nat_lt (length bytes) FILE_HEADER_LEN then staying reading (Ok (More FILE_HEADER_LEN))
-    else heading FILE_HEADER_LEN (record { format = formats.Pcap order unit; interfaces = reading.interfaces }) (header_fault order bytes)
+    if nat_lt (length bytes) file_header_len then staying reading (Ok (More file_header_len))
+    else heading file_header_len (record { format = formats.Pcap order unit; interfaces = reading.interfaces }) (header_fault order bytes)
 
 -- the first bytes of a file, of which the magic number says the format
 abbrev pub first_of : Reading → List ℕ → Option Magic → Result Progress CaptureError
@@ -89,7 +88,7 @@ first_of reading bytes (Some magics.Pcapng) = block_step reading bytes (framing_
 
 abbrev pub first_step : Reading → List ℕ → Result Progress CaptureError
 first_step reading bytes =
-    if nat_lt (length bytes) MAGIC_LEN then staying reading (Ok (More MAGIC_LEN)) else first_of reading bytes (magic_of (word Big bytes 0))
+    if nat_lt (length bytes) magic_len then staying reading (Ok (More magic_len)) else first_of reading bytes (magic_of (word Big bytes 0))
 
 -- what the next bytes of a file begin with
 abbrev pub step_in : Format → Reading → List ℕ → Result Progress CaptureError

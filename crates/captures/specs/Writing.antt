@@ -1,31 +1,30 @@
 -- Files of the format pcap, as they are written here: lowest byte first (draft-ietf-opsawg-pcap).
 use Rattle.std.specs.Prelude.{ℕ, ◌*◌, ◌/◌, ◌%◌, ◌≤◌, false, List, [], ◌∷◌, ◌++◌, length, Some, None, map}
 use Rattle.std.specs.Int.{w16, w32, to_le_bytes, to_be_bytes}
-use Rattle.captures.specs.declared.step.TheConstants.{LINKTYPE_DBUS, MAX_PACKET_LEN}
-use Rattle.captures.specs.declared.magic.TheConstants.{LITTLE_MICRO, LITTLE_NANO}
+use Rattle.captures.specs.declared.step.TheConstants.{MAX_PACKET_LEN}
 use Rattle.captures.specs.declared.pcap.TimeUnit.{TimeUnit}
 use Rattle.captures.specs.declared.pcap.TimeUnit.TheVariants.{Micro, Nano}
-use Rattle.captures.specs.declared.pcap.TheConstants.{VERSION_MAJOR, VERSION_MINOR, NANOS_PER_SECOND}
 use Rattle.captures.specs.declared.writing.TheConstants.{MAX_TIME}
+use Rattle.captures.specs.Standard.{linktype_dbus, little_micro, little_nano, nanos_per_second, version_major, version_minor}
 use Rattle.captures.specs.Pcap.{nanoseconds}
 use Rattle.captures.specs.Contents.{TimedMessage, Contents}
 
 -- the magic number (section 4, "Magic Number")
 abbrev pub magic_bytes : TimeUnit → List ℕ
-magic_bytes Micro = to_be_bytes w32 LITTLE_MICRO
-magic_bytes Nano = to_be_bytes w32 LITTLE_NANO
+magic_bytes Micro = to_be_bytes w32 little_micro
+magic_bytes Nano = to_be_bytes w32 little_nano
 
 -- a file's header: magic number, version, two words that are 0, snap length and link type (section 4, "General File
 -- Structure")
 abbrev pub header_bytes : TimeUnit → List ℕ
 header_bytes unit =
-    magic_bytes unit ++ to_le_bytes w16 VERSION_MAJOR ++ to_le_bytes w16 VERSION_MINOR ++ to_le_bytes w32 0 ++ to_le_bytes w32 0
-    ++ to_le_bytes w32 MAX_PACKET_LEN ++ to_le_bytes w32 LINKTYPE_DBUS
+    magic_bytes unit ++ to_le_bytes w16 version_major ++ to_le_bytes w16 version_minor ++ to_le_bytes w32 0 ++ to_le_bytes w32 0
+    ++ to_le_bytes w32 MAX_PACKET_LEN ++ to_le_bytes w32 linktype_dbus
 
 -- the header of a record: seconds, whole units of the rest, and its length twice (section 5, "Packet Record")
 abbrev pub record_bytes : TimeUnit → ℕ → ℕ → List ℕ
 record_bytes unit time len =
-    to_le_bytes w32 (time / NANOS_PER_SECOND) ++ to_le_bytes w32 (time % NANOS_PER_SECOND / nanoseconds unit) ++ to_le_bytes w32 len ++ to_le_bytes w32 len
+    to_le_bytes w32 (time / nanos_per_second) ++ to_le_bytes w32 (time % nanos_per_second / nanoseconds unit) ++ to_le_bytes w32 len ++ to_le_bytes w32 len
 
 -- a message and when it was seen
 pub record Record : Type 0 where

@@ -70,9 +70,8 @@ module _ {M : Type 0} where
           accepted = h.0.accepted;
           replies = h.0.replies;
           published = h.0.published;
-          seen = h.0.seen;
+          same = h.0.same;
           own = h.0.own ∙ ap (λ (l : List (Command M)). l ++ command ∷ []) same;
-          took = h.0.took;
           all = h.0.all;
         },
         h.1,

@@ -1,5 +1,5 @@
 -- What a command of a pass's connection comes to.
-use Rattle.std.proofs.Common.{◌≡◌, ℕ, ◌+◌, ◌^◌, ◌<◌, ◌≤◌, Bool, true, false, List, [], ◌∷◌, ◌++◌, length, sym, ap, ◌∙◌, subst, arith, length-append}
+use Rattle.std.proofs.Common.{◌≡◌, ℕ, ◌+◌, ◌^◌, ◌<◌, ◌≤◌, Bool, true, false, List, [], ◌∷◌, ◌++◌, length, refl, sym, ap, ◌∙◌, subst, arith, length-append}
 use Rattle.std.specs.Prelude.{if◌then◌else◌}
 use mathlib.Core.List.{IsPrefix}
 use Rattle.program_table.specs.declared.command.Command.{Command}
@@ -15,7 +15,7 @@ use Rattle.published.proofs.Refused.{accepted, refused}
 use Rattle.passes.specs.declared.error.BusError.{BusError}
 use Rattle.passes.specs.Errors.{error_of}
 use Rattle.passes.specs.Passes.{PassState, HasTaken}
-use Rattle.passes.specs.Calls.{IsDone, IsRefused, KeepsOwn}
+use Rattle.passes.specs.Calls.{IsDone, IsRefused, KeepsOwn, after_error}
 use Rattle.passes.proofs.Owned.{own-push, own_within}
 use Rattle.passes.proofs.Done.{counted, done, keeps}
 
@@ -48,11 +48,21 @@ module _ {M : Type 0} where
   pub seen_all : (v w : PassState M) (told_history : List (Command M)) (before : Publication M) → IsTold v w told_history before → w.seen ≡ before.history
   seen_all v w told_history before t = ap (λ (p : PassState M). p.seen) t.same ∙ t.told_is
 
+  -- the pass has counted one more of its commands
+  pub counts_one : (v w x : PassState M) (told_history front : List (Command M)) (before next : Publication M) (connection : ℕ) → IsTold v w told_history before → front ≡ next.history
+      → x ≡ record w { seen = front; connection = connection; took = w.took + 1 } → x ≡ record v { seen = next.history; connection = x.connection; is_closed = x.is_closed; took = v.took + 1 }
+  counts_one v w x told_history front before next connection t is to =
+      let F : PassState M → PassState M = λ p. record p { seen = front; connection = connection; took = p.took + 1 } in
+      let L : List (Command M) → PassState M = λ l. record v { seen = l; connection = connection; took = v.took + 1 } in
+      let P : PassState M → Type 0 = λ y. y ≡ record v { seen = next.history; connection = y.connection; is_closed = y.is_closed; took = v.took + 1 } in
+      let e : x ≡ L next.history = to ∙ ap F t.same ∙ ap L is in
+      subst P (sym e) refl
+
   -- a refused command
-  pub turned_down : (v w : PassState M) (told_history : List (Command M)) (before next : Publication M) (connection took : ℕ) (command : Command M) (refusal : Refusal) (error : BusError)
+  pub turned_down : (v w x : PassState M) (told_history : List (Command M)) (before next : Publication M) (connection took : ℕ) (command : Command M) (refusal : Refusal) (error : BusError)
       → IsTold v w told_history before → IsCounted v before connection took → reply_to (after before.history) command ≡ Refused refusal → next.history ≡ with_next before.history command
-      → error ≡ error_of refusal → IsRefused v before command error w next × KeepsOwn v w
-  turned_down v w told_history before next connection took command refusal error t h said more is =
+      → error ≡ error_of refusal → x ≡ after_error error w → IsRefused v before command error x next × KeepsOwn v x
+  turned_down v w x told_history before next connection took command refusal error t h said more is to =
       let l = before.history in
       let off : is_accepted (after l) command ≡ false = refused (after l) command refusal said in
       let pre : IsPrefix v.seen l = begins_all v w told_history before t in (
@@ -62,9 +72,10 @@ module _ {M : Type 0} where
           replies = said;
           error_is = is;
           published = more ∙ ap (λ (b : Bool). if b then l ++ command ∷ [] else l) off;
-          seen = t.same ∙ ap (λ (k : List (Command M)). let p : PassState M = record v { seen = k } in p) t.told_is;
+          seen = to ∙ ap (after_error error) (t.same ∙ ap (λ (k : List (Command M)). let p : PassState M = record v { seen = k } in p) t.told_is);
         },
-        keeps v w l pre h.taken.own (own_count v before connection took h) (seen_all v w told_history before t) (ap (λ (p : PassState M). p.took) t.same),
+        keeps v x l pre h.taken.own (own_count v before connection took h) (ap (λ (p : PassState M). p.seen) to ∙ seen_all v w told_history before t)
+        (ap (λ (p : PassState M). p.took) to ∙ ap (λ (p : PassState M). p.took) t.same),
       )
 
   -- the command is accepted, and is of the pass's connection
@@ -113,5 +124,4 @@ module _ {M : Type 0} where
       let n : length (own_commands x.connection l) ≡ v.took = ap (λ (c : ℕ). length (own_commands c l)) at ∙ own_count v before connection took h in
       let low : v.took ≤ length (own_commands x.connection v.seen) = subst (λ (c : ℕ). v.took ≤ length (own_commands c v.seen)) (sym at) h.taken.own in
       let own : is_command_of (after l) x.connection command ≡ true = subst (λ (c : ℕ). is_command_of (after l) c command ≡ true) (sym at) a.of_connection in
-      let k : x.took ≡ v.took + 1 = ap (λ (p : PassState M). p.took) to ∙ ap (λ (p : PassState M). p.took + 1) t.same in
-      done v before command reply x next (begins_all v w told_history before t) a.accepted said low n own a.more (ap (λ (p : PassState M). p.seen) to ∙ is) k
+      done v before command reply x next (begins_all v w told_history before t) a.accepted said low n own a.more (counts_one v w x told_history front before next connection t is to)

@@ -28,9 +28,12 @@ module _ {M : Type 0} where
       → IsPrefix v.seen before.history → is_accepted (after before.history) command ≡ true → reply ≡ reply_to (after before.history) command
       → v.took ≤ length (own_commands w.connection v.seen) → length (own_commands w.connection before.history) ≡ v.took
       → is_command_of (after before.history) w.connection command ≡ true
-      → next.history ≡ before.history ++ command ∷ [] → w.seen ≡ next.history → w.took ≡ v.took + 1 → IsDone v before command reply w next
-  done v before command reply w next pre may said low count is more seen took =
+      → next.history ≡ before.history ++ command ∷ [] → w ≡ record v { seen = next.history; connection = w.connection; is_closed = w.is_closed; took = v.took + 1 }
+      → IsDone v before command reply w next
+  done v before command reply w next pre may said low count is more same_else =
       let c = w.connection in
+      let seen : w.seen ≡ next.history = ap (λ (p : PassState M). p.seen) same_else in
+      let took : w.took ≡ v.took + 1 = ap (λ (p : PassState M). p.took) same_else in
       let l = before.history in
       let e : own_commands c w.seen ≡ own_commands c l ++ command ∷ [] = ap (own_commands c) (seen ∙ more) ∙ own-push l c command is in
       let same : own_commands c l ≡ own_commands c v.seen = own_same v.seen l c pre (omega arith) in
@@ -39,10 +42,9 @@ module _ {M : Type 0} where
         accepted = may;
         replies = said;
         published = more;
-        seen = seen;
+        same = same_else;
         own = e ∙ ap (λ (k : List (Command M)). k ++ command ∷ []) same;
-        took = took;
-        all = omega (arith, ap length e, length-append (own_commands c l) (command ∷ []));
+        all = omega (arith, took, ap length e, length-append (own_commands c l) (command ∷ []));
       }
 
   -- the pass finds its own commands as they were

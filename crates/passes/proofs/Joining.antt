@@ -19,10 +19,10 @@ use Rattle.published.proofs.Refused.{refused}
 use Rattle.passes.specs.declared.error.BusError.{BusError}
 use Rattle.passes.specs.Errors.{error_of}
 use Rattle.passes.specs.Passes.{PassState, HasTaken}
-use Rattle.passes.specs.Calls.{IsDone, IsRefused}
+use Rattle.passes.specs.Calls.{IsDone, IsRefused, after_error}
 use Rattle.passes.proofs.Owned.{own-push}
 use Rattle.passes.proofs.Done.{done}
-use Rattle.passes.proofs.Commands.{IsTold, begins_all}
+use Rattle.passes.proofs.Commands.{IsTold, begins_all, counts_one}
 
 same_number : (m n : ℕ) → m ≡ n → (m == n) ≡ true
 same_number m n e = grind (arith, nat_tests)
@@ -59,10 +59,10 @@ module _ {M : Type 0} where
   none_taken v before connection h = h.taken.none (sym h.at ∙ h.none)
 
   -- a refused Connect
-  pub turned_away : (v w : PassState M) (told_history : List (Command M)) (before next : Publication M) (m : M) (refusal : Refusal) (error : BusError)
+  pub turned_away : (v w x : PassState M) (told_history : List (Command M)) (before next : Publication M) (m : M) (refusal : Refusal) (error : BusError)
       → IsTold v w told_history before → reply_to (after before.history) (Connect m) ≡ Refused refusal → next.history ≡ with_next before.history (Connect m)
-      → error ≡ error_of refusal → IsRefused v before (Connect m) error w next
-  turned_away v w told_history before next m refusal error t said more is =
+      → error ≡ error_of refusal → x ≡ after_error error w → IsRefused v before (Connect m) error x next
+  turned_away v w x told_history before next m refusal error t said more is to =
       let l = before.history in
       let off : is_accepted (after l) (Connect m) ≡ false = refused (after l) (Connect m) refusal said in
       record {
@@ -71,7 +71,7 @@ module _ {M : Type 0} where
         replies = said;
         error_is = is;
         published = more ∙ ap (λ (b : Bool). if b then l ++ Connect m ∷ [] else l) off;
-        seen = t.same ∙ ap (λ (k : List (Command M)). let p : PassState M = record v { seen = k } in p) t.told_is;
+        seen = to ∙ ap (after_error error) (t.same ∙ ap (λ (k : List (Command M)). let p : PassState M = record v { seen = k } in p) t.told_is);
       }
 
   -- the next number is that of the Connect alone
@@ -107,5 +107,4 @@ module _ {M : Type 0} where
       let count : length (own_commands x.connection l) ≡ v.took = ap (λ (c : ℕ). length (own_commands c l)) at ∙ ap length (none_own before m n h.legal named) ∙ sym z in
       let low : v.took ≤ length (own_commands x.connection v.seen) = omega (arith, z) in
       let own : is_command_of (after l) x.connection (Connect m) ≡ true = subst (λ (c : ℕ). is_command_of (after l) c (Connect m) ≡ true) (sym at) (its_own before m n named) in
-      let k : x.took ≡ v.took + 1 = ap (λ (p : PassState M). p.took) to ∙ ap (λ (p : PassState M). p.took + 1) t.same in
-      done v before (Connect m) reply x next (begins_all v w told_history before t) on said low count own more (ap (λ (p : PassState M). p.seen) to ∙ is) k
+      done v before (Connect m) reply x next (begins_all v w told_history before t) on said low count own more (counts_one v w x told_history front before next n t is to)

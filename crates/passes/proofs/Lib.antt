@@ -1,6 +1,7 @@
 pub mod Owned
 pub mod Done
 pub mod Commands
+pub mod Closing
 pub mod Joining
 pub mod Finding
 pub mod NameOrder

@@ -1,5 +1,5 @@
 -- Which mailbox each connection of a history was given.
-use Rattle.std.proofs.Common.{◌≡◌, ◌⊎◌, inl, inr, ℕ, zero, suc, ◌+◌, ◌<◌, ◌≤◌, ◌==◌, Bool, true, false, cond, not, List, [], ◌∷◌, ◌++◌, length, fold, Option, Some, None, refl, sym, ap, subst, ◌∙◌, arith, append_assoc, append-nil, length-append}
+use Rattle.std.proofs.Common.{◌≡◌, ◌⊎◌, inl, inr, ℕ, zero, suc, ◌+◌, ◌<◌, ◌≤◌, ◌==◌, Bool, true, false, true≢false, cond, not, List, [], ◌∷◌, ◌++◌, length, fold, Option, Some, None, refl, sym, ap, subst, ◌∙◌, arith, append_assoc, append-nil, length-append, eq-eqb, eqb-true}
 use Rattle.std.specs.Prelude.{is_some, option_map, slice_get, get_or}
 use Rattle.std.specs.Option.{option_or}
 use Rattle.std.proofs.lemmas.Bool.{and_parts}
@@ -19,6 +19,7 @@ use Rattle.program_table.specs.History.{after, are_accepted, IsHistory}
 use Rattle.program_table.specs.State.{State, opening}
 use Rattle.published.proofs.Histories.{next-accepted, after-push}
 use Rattle.passes.specs.Mailboxes.{new_mailbox, mailboxes, mailbox_given}
+use Rattle.passes.specs.Theirs.{keeps_connections}
 
 get-append : {X : Type 0} (xs ys : List X) (k : ℕ) (x : X) → slice_get xs k ≡ Some x → slice_get (xs ++ ys) k ≡ Some x
 get-append xs ys k x e =
@@ -70,38 +71,31 @@ module _ {M : Type 0} where
       go true is later = rw is refl
       go false is later = rw is later
 
-  -- a connection that is left out has no mailbox
-  gone_itself : (n : ℕ) (cs : List (Connection M)) → mailbox_of n (without_connection n cs) ≡ None
-  gone_itself n [] = refl
-  gone_itself n (x ∷ cs) = go (has_number n x) refl (gone_itself n cs)
+  -- a connection that is left out has no mailbox, and each other one has its own
+  mailbox-without : (n d : ℕ) (cs : List (Connection M)) → mailbox_of n (without_connection d cs) ≡ cond (d == n) None (mailbox_of n cs)
+  mailbox-without n d [] = nowhere (d == n)
     where
-      go : (b : Bool) → has_number n x ≡ b → mailbox_of n (without_connection n cs) ≡ None → mailbox_of n (without_connection n (x ∷ cs)) ≡ None
-      go true is later = rw is later
-      go false is later = rw is (rw is later)
-
-  -- connection n has the mailbox m in x ∷ others, where is_it says whether x is connection n
-  abbrev Has : ℕ → M → Connection M → List (Connection M) → Bool → Type 0
-  Has n m x others is_it = option_map (λ (c : Connection M). c.mailbox) (cond is_it (Some x) (connection_of n others)) ≡ Some m
+      nowhere : (b : Bool) → Id (Option M) None (cond b None None)
+      nowhere true = refl
+      nowhere false = refl
+  mailbox-without n d (x ∷ cs) = go (has_number d x) (has_number n x) (d == n) refl refl refl (mailbox-without n d cs)
+    where
+      go : (gone is_it same : Bool) → has_number d x ≡ gone → has_number n x ≡ is_it → (d == n) ≡ same → mailbox_of n (without_connection d cs) ≡ cond (d == n) None (mailbox_of n cs)
+          → mailbox_of n (without_connection d (x ∷ cs)) ≡ cond (d == n) None (mailbox_of n (x ∷ cs))
+      go true true true goes is at later = rw at (rw goes (later ∙ ap (λ (b : Bool). cond b None (mailbox_of n cs)) at))
+      go true true false goes is at later = absurd (true≢false (sym (eq-eqb d n (same_number d x.number goes ∙ sym (same_number n x.number is))) ∙ at))
+      go true false same goes is at later = rw goes (rw is later)
+      go false true true goes is at later = absurd (true≢false (sym (eq-eqb x.number d (eqb-true x.number n is ∙ sym (eqb-true d n at))) ∙ goes))
+      go false true false goes is at later = rw goes (rw is (rw at refl))
+      go false false same goes is at later = rw goes (rw is later)
 
   -- the connections that are left have the mailboxes that they had
   mailbox-others : (n d : ℕ) (m : M) (cs : List (Connection M)) → mailbox_of n (without_connection d cs) ≡ Some m → mailbox_of n cs ≡ Some m
-  mailbox-others n d m [] e = e
-  mailbox-others n d m (x ∷ cs) e = go (has_number d x) (has_number n x) refl refl e (mailbox-others n d m cs)
+  mailbox-others n d m cs e = go (d == n) refl
     where
-      others : List (Connection M)
-      others = without_connection d cs
-
-      none : has_number d x ≡ true → has_number n x ≡ true → mailbox_of n others ≡ None
-      none goes is =
-          let same : d ≡ n = same_number d x.number goes ∙ sym (same_number n x.number is) in
-          ap (λ (k : ℕ). mailbox_of n (without_connection k cs)) same ∙ gone_itself n cs
-
-      go : (gone is_it : Bool) → has_number d x ≡ gone → has_number n x ≡ is_it → mailbox_of n (cond (not gone) (x ∷ others) others) ≡ Some m → (mailbox_of n others ≡ Some m → mailbox_of n cs ≡ Some m)
-          → Has n m x cs is_it
-      go true true goes is there later = let empty = none goes is in absurd (cc)
-      go true false goes is there later = later there
-      go false true goes is there later = subst (Has n m x others) is there
-      go false false goes is there later = later (subst (Has n m x others) is there)
+      go : (b : Bool) → (d == n) ≡ b → mailbox_of n cs ≡ Some m
+      go true is = let gone = ap (λ (b : Bool). cond b None (mailbox_of n cs)) is in let without = mailbox-without n d cs in absurd (cc)
+      go false is = sym (mailbox-without n d cs ∙ ap (λ (b : Bool). cond b None (mailbox_of n cs)) is) ∙ e
 
   abbrev new_connection : ℕ → M → Connection M
   new_connection last m = record { number = last + 1; mailbox = m; commands = 1 }
@@ -135,6 +129,19 @@ module _ {M : Type 0} where
   there-effect s (Release d name) n m e = inl (sym (mailbox-more n d s.connections) ∙ e)
   there-effect s (DropOne d) n m e = inl (sym (mailbox-more n d s.connections) ∙ e)
   there-effect s (Close d) n m e = inl (mailbox-others n d m s.connections e)
+
+  -- what makes no connection and closes none changes no mailbox
+  mailbox-effect : (s : State M) (c : Command M) (n : ℕ) → keeps_connections c ≡ true → mailbox_of n (effect s c).connections ≡ mailbox_of n s.connections
+  mailbox-effect s (Limit most) n keeps = refl
+  mailbox-effect s (Connect new) n keeps = absurd (cc)
+  mailbox-effect s (AddRule d compiled) n keeps = mailbox-more n d s.connections
+  mailbox-effect s (RemoveRule d rule) n keeps = mailbox-more n d s.connections
+  mailbox-effect s (Attach d attachment) n keeps = mailbox-more n d s.connections
+  mailbox-effect s (Detach d id) n keeps = mailbox-more n d s.connections
+  mailbox-effect s (Request d name flags) n keeps = mailbox-more n d s.connections
+  mailbox-effect s (Release d name) n keeps = mailbox-more n d s.connections
+  mailbox-effect s (DropOne d) n keeps = mailbox-more n d s.connections
+  mailbox-effect s (Close d) n keeps = absurd (cc)
 
   -- only a Connect gives a number
   last-effect : (s : State M) (c : Command M) → (effect s c).last_connection ≡ s.last_connection + length (mailboxes (c ∷ []))
@@ -203,20 +210,40 @@ module _ {M : Type 0} where
   pushed : (h : List (Command M)) (c : Command M) → is_accepted (after h) c ≡ true → after (h ++ c ∷ []) ≡ effect (after h) c
   pushed h c ok = after-push h c ∙ next-accepted (after h) c ok
 
-  -- a connection that is there after a command was there before it, or is the one that it makes
-  pub there_before : (h : List (Command M)) (c : Command M) (n : ℕ) (m : M) → is_accepted (after h) c ≡ true → mailbox_of n (after (h ++ c ∷ [])).connections ≡ Some m
-      → (mailbox_of n (after h).connections ≡ Some m) ⊎ ((c ≡ Connect m) × (n ≡ (after h).last_connection + 1))
-  there_before h c n m ok there = there-effect (after h) c n m (sym (ap (λ (s : State M). mailbox_of n s.connections) (pushed h c ok)) ∙ there)
+  -- after a command that makes no connection and closes none, each has the mailbox that it had
+  pub mailbox_kept : (h : List (Command M)) (c : Command M) (n : ℕ) → is_accepted (after h) c ≡ true → keeps_connections c ≡ true → mailbox_of n (after (h ++ c ∷ [])).connections ≡ mailbox_of n (after h).connections
+  mailbox_kept h c n ok keeps = ap (λ (s : State M). mailbox_of n s.connections) (pushed h c ok) ∙ mailbox-effect (after h) c n keeps
 
-  -- the last number never falls
-  pub last_grows : (h : List (Command M)) (c : Command M) → is_accepted (after h) c ≡ true → (after h).last_connection ≤ (after (h ++ c ∷ [])).last_connection
-  last_grows h c ok =
-      let e = ap (λ (s : State M). s.last_connection) (pushed h c ok) in omega (arith, e, last-effect (after h) c)
+  -- a connection that was closed is gone, and the others have the mailboxes that they had
+  pub mailbox_closed : (h : List (Command M)) (d n : ℕ) → is_accepted (after h) (Close d) ≡ true → mailbox_of n (after (h ++ Close d ∷ [])).connections ≡ cond (d == n) None (mailbox_of n (after h).connections)
+  mailbox_closed h d n ok = ap (λ (s : State M). mailbox_of n s.connections) (pushed h (Close d) ok) ∙ mailbox-without n d (after h).connections
 
-  -- a connection that was closed is gone
-  pub gone_closed : (h : List (Command M)) (n : ℕ) → is_accepted (after h) (Close n) ≡ true → mailbox_of n (after (h ++ Close n ∷ [])).connections ≡ None
-  gone_closed h n ok = ap (λ (s : State M). mailbox_of n s.connections) (pushed h (Close n) ok) ∙ gone_itself n (after h).connections
+  -- no number above the last one has a mailbox
+  pub none_above : (h : List (Command M)) (n : ℕ) → IsHistory h → (after h).last_connection < n → mailbox_of n (after h).connections ≡ None
+  none_above h n is above = go (connection_of n (after h).connections) refl
+    where
+      go : (o : Option (Connection M)) → connection_of n (after h).connections ≡ o → mailbox_of n (after h).connections ≡ None
+      go None e = ap (λ (o : Option (Connection M)). option_map (λ (c : Connection M). c.mailbox) o) e
+      go (Some c) e = let le = below_last h n is (ap is_some e) in absurd (omega (arith, le, above))
 
-  -- a Connect makes the last number one greater
-  pub connect_last : (h : List (Command M)) (m : M) → is_accepted (after h) (Connect m) ≡ true → (after (h ++ Connect m ∷ [])).last_connection ≡ (after h).last_connection + 1
-  connect_last h m ok = ap (λ (s : State M). s.last_connection) (pushed h (Connect m) ok)
+  -- the connection that a Connect makes has its mailbox, and the others have theirs
+  pub mailbox_joined : (h : List (Command M)) (m : M) (n : ℕ) → IsHistory h → is_accepted (after h) (Connect m) ≡ true → mailbox_of n (after (h ++ Connect m ∷ [])).connections ≡ cond (((after h).last_connection + 1) == n) (Some m) (mailbox_of n (after h).connections)
+  mailbox_joined h m n is ok =
+      ap (λ (s : State M). mailbox_of n s.connections) (pushed h (Connect m) ok)
+      ∙ ap (option_map its) (find-append (has_number n) (after h).connections (new_connection last m ∷ []))
+      ∙ go (connection_of n (after h).connections) ((last + 1) == n) refl refl
+    where
+      last : ℕ
+      last = (after h).last_connection
+
+      its : Connection M → M
+      its c = c.mailbox
+
+      go : (o : Option (Connection M)) (b : Bool) → connection_of n (after h).connections ≡ o → ((last + 1) == n) ≡ b → option_map its (option_or o (cond b (Some (new_connection last m)) None)) ≡ cond b (Some m) (option_map its o)
+      go None true e at = refl
+      go None false e at = refl
+      go (Some c) false e at = refl
+      go (Some c) true e at =
+          let le = below_last h n is (ap is_some e) in
+          let same = same_number n (last + 1) at in
+          absurd (omega (arith, le, same))

@@ -10,21 +10,24 @@ use Rattle.program_table.specs.declared.command.Command.TheVariants.{Connect, Cl
 use Rattle.program_table.specs.declared.connection.Connection.{Connection}
 use Rattle.program_table.specs.Connections.{connection_of, is_connected, mailbox_of}
 use Rattle.program_table.specs.Does.{is_accepted}
-use Rattle.program_table.specs.History.{after, is_command_of, IsHistory}
-use Rattle.program_table.specs.State.{State, opening}
-use Rattle.published.specs.Publication.{with_next}
+use Rattle.program_table.specs.History.{after, IsHistory}
+use Rattle.program_table.specs.State.{State}
+use Rattle.program_table.specs.declared.command.Reply.{Reply}
+use Rattle.published.specs.Publication.{Publication}
 use Rattle.routing.specs.SenderView.{RecipientSeatView, SenderView}
 use Rattle.routing.specs.RecipientSeats.{seat_at, outbox_at, outbox_id, written, all_written, is_in, HasSeat, Keeps}
 use Rattle.routing.specs.Turns.{TurnView, TurnsView, queue_at, HasTurn, StandsAt, MayStand, KeepsTurns}
 use Rattle.routing.proofs.Routes.{written_at}
+use Rattle.passes.specs.declared.error.BusError.{BusError}
 use Rattle.passes.specs.Mailboxes.{mailbox_given}
 use Rattle.passes.specs.NameOwners.{IsOwner}
 use Rattle.passes.specs.Passes.{PassState}
 use Rattle.passes.specs.Routes.{IsOutboxOf}
 use Rattle.passes.specs.Seats.{KeepsThere}
-use Rattle.passes.specs.Theirs.{IsGiven, AreTheirs, HaveTurns}
+use Rattle.passes.specs.Calls.{Answers}
+use Rattle.passes.specs.Theirs.{IsGiven, AreTheirs, HaveTurns, keeps_connections}
 use Rattle.passes.proofs.Seats.{kept}
-use Rattle.passes.proofs.Mailboxes.{given_later, given_there, there_before, last_grows, below_last, gone_closed, connect_last}
+use Rattle.passes.proofs.Mailboxes.{given_later, given_there, none_above, mailbox_kept, mailbox_joined, mailbox_closed}
 
 written_outbox : (o : Option RecipientSeatView) → outbox_id (option_map written o) ≡ outbox_id o
 written_outbox None = refl
@@ -35,6 +38,10 @@ stands None n recipient_seats turns at has = tt
 stands (Some p) n recipient_seats turns at has = (at, has)
 
 module _ {M : Type 0} where
+  -- the queue of a mailbox's outbox
+  abbrev queue_of : (M → OutboxId) → M → SegId Global
+  queue_of outbox_of m = (outbox_of m).queue
+
   given_still : (outbox_of : M → OutboxId) (old new : List (Command M)) (n : ℕ) (outbox : OutboxId) → IsPrefix old new → IsGiven outbox_of old n outbox → IsGiven outbox_of new n outbox
   given_still outbox_of old new n outbox begins h = go (mailbox_given old n) refl h
     where
@@ -90,85 +97,57 @@ module _ {M : Type 0} where
 
       go : (o : Option RecipientSeatView) → seat_at n recipient_seats ≡ o → IfSome o (λ s. queue_at n turns.turns ≡ Some s.outbox.queue)
       go None e = tt
-      go (Some s) e = have.theirs n its.0 its.1 ∙ ap (λ (x : OutboxId). Some x.queue) (given s.outbox (theirs n s.outbox (ap outbox_id e)))
+      go (Some s) e = have n ∙ ap (option_map (queue_of outbox_of)) its.1 ∙ ap (λ (x : OutboxId). Some x.queue) (given s.outbox (theirs n s.outbox (ap outbox_id e)))
 
   -- the turns of the outboxes stay those of the connections that are there
   pub turns_alike : (outbox_of : M → OutboxId) (l : List (Command M)) (old new : List TurnView) → ((n : ℕ) → queue_at n new ≡ queue_at n old) → HaveTurns outbox_of l old → HaveTurns outbox_of l new
-  turns_alike outbox_of l old new same have = record { theirs = λ n m e. same n ∙ have.theirs n m e; given = λ n lt. same n ∙ have.given n lt }
+  turns_alike outbox_of l old new same have n = same n ∙ have n
 
   pub turns_none : (outbox_of : M → OutboxId) → HaveTurns outbox_of [] []
-  turns_none outbox_of = record { theirs = λ n m e. absurd (cc); given = λ n lt. refl }
+  turns_none outbox_of n = refl
 
-  -- a command of a pass is no Connect
-  pub never_connects : (c : ℕ) (command : Command M) → ((s : State M) → is_command_of s c command ≡ true) → (m : M) → command ≡ Connect m → ⊥
-  never_connects c command own m is =
-      let s : State M = record opening { last_connection = c } in
-      let P : Command M → Type 0 = λ x. is_command_of s c x ≡ true in
-      let e : c ≡ c + 1 = eqb-true c (c + 1) (subst P is (own s)) in
-      omega (arith, e)
+  -- a number that wasn't given yet has no turn
+  pub no_turn : (outbox_of : M → OutboxId) (l : List (Command M)) (n : ℕ) (turns : List TurnView) → IsHistory l → (after l).last_connection < n → HaveTurns outbox_of l turns → queue_at n turns ≡ None
+  no_turn outbox_of l n turns legal above have = have n ∙ ap (option_map (queue_of outbox_of)) (none_above l n legal above)
 
-  turns_more : (outbox_of : M → OutboxId) (l : List (Command M)) (command : Command M) (turns : List TurnView) → is_accepted (after l) command ≡ true → ((m : M) → command ≡ Connect m → ⊥) → HaveTurns outbox_of l turns
-      → HaveTurns outbox_of (l ++ command ∷ []) turns
-  turns_more outbox_of l command turns ok other have = record {
-    theirs = λ n m e. pick n m (there_before l command n m ok e);
-    given = λ n lt. let grows = last_grows l command ok in have.given n (omega (arith, grows, lt));
-  }
-    where
-      pick : (n : ℕ) (m : M) → (mailbox_of n (after l).connections ≡ Some m) ⊎ ((command ≡ Connect m) × (n ≡ (after l).last_connection + 1)) → queue_at n turns ≡ Some (outbox_of m).queue
-      pick n m (inl there) = have.theirs n m there
-      pick n m (inr (is, at)) = absurd (other m is)
+  -- what is refused changes no turn
+  pub turns_stay : (outbox_of : M → OutboxId) (v w : PassState M) (before next : Publication M) (command : Command M) (error : BusError) (turns : List TurnView) → Answers false v before command (Err error) w next
+      → HaveTurns outbox_of before.history turns → HaveTurns outbox_of next.history turns
+  turns_stay outbox_of v w before next command error turns answers have =
+      let P : List (Command M) → Type 0 = λ x. HaveTurns outbox_of x turns in
+      subst P (sym (elim answers [ inl refused ↦ refused.0.published | inr closed ↦ closed.0.published ])) have
 
-  -- whatever becomes of a command that is no Connect
-  pub turns_next : (outbox_of : M → OutboxId) (l new : List (Command M)) (command : Command M) (turns : List TurnView) → new ≡ with_next l command → ((m : M) → command ≡ Connect m → ⊥) → HaveTurns outbox_of l turns → HaveTurns outbox_of new turns
-  turns_next outbox_of l new command turns is other have =
-      let P : List (Command M) → Type 0 = λ x. HaveTurns outbox_of x turns in subst P (sym is) (go (is_accepted (after l) command) refl)
-    where
-      go : (b : Bool) → is_accepted (after l) command ≡ b → HaveTurns outbox_of (if b then l ++ command ∷ [] else l) turns
-      go true ok = turns_more outbox_of l command turns ok other have
-      go false ok = have
+  -- nor does what makes no connection and closes none
+  pub turns_next : (outbox_of : M → OutboxId) (v w : PassState M) (before next : Publication M) (command : Command M) (result : Result Reply BusError) (turns : List TurnView) → keeps_connections command ≡ true
+      → Answers false v before command result w next → HaveTurns outbox_of before.history turns → HaveTurns outbox_of next.history turns
+  turns_next outbox_of v w before next command (Ok reply) turns keeps answers have =
+      let P : List (Command M) → Type 0 = λ x. HaveTurns outbox_of x turns in
+      subst P (sym answers.0.published) (λ n. have n ∙ ap (option_map (queue_of outbox_of)) (sym (mailbox_kept before.history command n answers.0.accepted keeps)))
+  turns_next outbox_of v w before next command (Err error) turns keeps answers have = turns_stay outbox_of v w before next command error turns answers have
 
   -- a connection is made, whose turn is kept
   pub turns_joined : (outbox_of : M → OutboxId) (l : List (Command M)) (mailbox : M) (number : ℕ) (queue : SegId Global) (old new : List TurnView) → IsHistory l → is_accepted (after l) (Connect mailbox) ≡ true → number ≡ (after l).last_connection + 1
       → queue ≡ (outbox_of mailbox).queue → ((n : ℕ) → queue_at n new ≡ cond (number == n) (Some queue) (queue_at n old)) → HaveTurns outbox_of l old → HaveTurns outbox_of (l ++ Connect mailbox ∷ []) new
-  turns_joined outbox_of l mailbox number queue old new legal ok next its added have = record {
-    theirs = λ n m e. pick n m (there_before l (Connect mailbox) n m ok e);
-    given = λ n lt.
-        let last = connect_last l mailbox ok in
-        let other : (number == n) ≡ false = ne_eqb number n (λ e. omega (arith, e, next, last, lt)) in
-        added n ∙ ap (λ b. cond b (Some queue) (queue_at n old)) other ∙ have.given n (omega (arith, last, lt));
-  }
+  turns_joined outbox_of l mailbox number queue old new legal ok next its added have n =
+      added n ∙ ap (λ (k : ℕ). cond (k == n) (Some queue) (queue_at n old)) next ∙ ap (λ (q : SegId Global). cond (((after l).last_connection + 1) == n) (Some q) (queue_at n old)) its
+      ∙ ap (λ (o : Option (SegId Global)). cond (((after l).last_connection + 1) == n) (Some (outbox_of mailbox).queue) o) (have n)
+      ∙ push (((after l).last_connection + 1) == n) (Some mailbox) (mailbox_of n (after l).connections)
+      ∙ ap (option_map (queue_of outbox_of)) (sym (mailbox_joined l mailbox n legal ok))
     where
-      pick : (n : ℕ) (m : M) → (mailbox_of n (after l).connections ≡ Some m) ⊎ ((Connect mailbox ≡ Connect m) × (n ≡ (after l).last_connection + 1)) → queue_at n new ≡ Some (outbox_of m).queue
-      pick n m (inl there) =
-          let le = below_last l n legal (there_is n m there) in
-          let other : (number == n) ≡ false = ne_eqb number n (λ e. omega (arith, e, next, le)) in
-          added n ∙ ap (λ b. cond b (Some queue) (queue_at n old)) other ∙ have.theirs n m there
-        where
-          there_is : (n : ℕ) (m : M) → mailbox_of n (after l).connections ≡ Some m → is_connected n (after l).connections ≡ true
-          there_is n m e = go (connection_of n (after l).connections) e
-            where
-              go : (o : Option (Connection M)) → option_map (λ (c : Connection M). c.mailbox) o ≡ Some m → is_some o ≡ true
-              go None e = absurd (cc)
-              go (Some c) e = refl
-      pick n m (inr (is, at)) =
-          let same : mailbox ≡ m = cc in
-          added n ∙ ap (λ b. cond b (Some queue) (queue_at n old)) (eq-eqb number n (next ∙ sym at)) ∙ ap Some (its ∙ ap (λ (x : M). (outbox_of x).queue) same)
+      push : (b : Bool) (one other : Option M) → cond b (option_map (queue_of outbox_of) one) (option_map (queue_of outbox_of) other) ≡ option_map (queue_of outbox_of) (cond b one other)
+      push true one other = refl
+      push false one other = refl
 
-  -- a connection that has gone needs no turn
+  -- the turn of a connection that has gone is given up
   pub turns_left : (outbox_of : M → OutboxId) (l : List (Command M)) (number : ℕ) (old new : List TurnView) → is_accepted (after l) (Close number) ≡ true → ((n : ℕ) → queue_at n new ≡ cond (number == n) None (queue_at n old))
-      → HaveTurns outbox_of (l ++ Close number ∷ []) old → HaveTurns outbox_of (l ++ Close number ∷ []) new
-  turns_left outbox_of l number old new ok left have = record { theirs = λ n m e. still n m e (number == n) refl; given = λ n lt. none n lt (number == n) refl }
+      → HaveTurns outbox_of l old → HaveTurns outbox_of (l ++ Close number ∷ []) new
+  turns_left outbox_of l number old new ok left have n =
+      left n ∙ ap (λ (o : Option (SegId Global)). cond (number == n) None o) (have n) ∙ push (number == n) (mailbox_of n (after l).connections)
+      ∙ ap (option_map (queue_of outbox_of)) (sym (mailbox_closed l number n ok))
     where
-      still : (n : ℕ) (m : M) → mailbox_of n (after (l ++ Close number ∷ [])).connections ≡ Some m → (b : Bool) → (number == n) ≡ b → queue_at n new ≡ Some (outbox_of m).queue
-      still n m e false is = left n ∙ ap (λ b. cond b None (queue_at n old)) is ∙ have.theirs n m e
-      still n m e true is =
-          let P : ℕ → Type 0 = λ x. mailbox_of x (after (l ++ Close number ∷ [])).connections ≡ None in
-          let gone = subst P (eqb-true number n is) (gone_closed l number ok) in
-          absurd (cc)
-
-      none : (n : ℕ) → (after (l ++ Close number ∷ [])).last_connection < n → (b : Bool) → (number == n) ≡ b → queue_at n new ≡ None
-      none n lt true is = left n ∙ ap (λ b. cond b None (queue_at n old)) is
-      none n lt false is = left n ∙ ap (λ b. cond b None (queue_at n old)) is ∙ have.given n lt
+      push : (b : Bool) (other : Option M) → cond b None (option_map (queue_of outbox_of) other) ≡ option_map (queue_of outbox_of) (cond b None other)
+      push true other = refl
+      push false other = refl
 
   -- the seats of a sender that a pass gave away, after it left
   pub theirs_sent : (outbox_of : M → OutboxId) (v u q : PassState M) (l : List (Command M)) (s : State M) (old mid new : SenderView) → u ≡ v → IsPrefix v.seen l → IsHistory l → s ≡ after l → q.seen ≡ l

@@ -1,5 +1,5 @@
 -- What the calls of a pass do, under the lock of the bus (own).
-use Rattle.std.specs.Prelude.{◌≡◌, ◌≢◌, ◌⊎◌, ◌+◌, ◌<◌, ℕ, Bool, true, false, List, [], ◌∷◌, ◌++◌, length, Result, Ok, Err}
+use Rattle.std.specs.Prelude.{◌≡◌, ◌≢◌, ◌⊎◌, ◌+◌, ◌<◌, ◌||◌, ℕ, Bool, true, false, List, [], ◌∷◌, ◌++◌, length, Result, Ok, Err}
 use mathlib.Core.List.{IsPrefix}
 use Rattle.program_table.specs.declared.capacity.Capacity.{Capacity}
 use Rattle.program_table.specs.declared.command.Command.{Command}
@@ -13,7 +13,7 @@ use Rattle.program_table.specs.History.{after, own_commands}
 use Rattle.published.specs.Publication.{Publication}
 use Rattle.passes.specs.declared.error.BusError.{BusError}
 use Rattle.passes.specs.declared.error.BusError.TheVariants as errors
-use Rattle.passes.specs.Errors.{error_of}
+use Rattle.passes.specs.Errors.{error_of, shuts_out}
 use Rattle.passes.specs.Passes.{PassState}
 
 module _ {M : Type 0} where
@@ -38,17 +38,25 @@ module _ {M : Type 0} where
   Once P = (before : Publication M) × (next : Publication M) × P before next
 
   -- A command of w's connection is accepted after the history that is published, which begins with what the pass v had
-  -- seen. It is published and seen by the pass w. The commands of the connection that w has seen are those that v had
-  -- seen, and this one, and they are as many as it took.
+  -- seen. It is published and seen by the pass w, and counted there, and nothing else of the pass changes but its connection and
+  -- whether that was closed. The commands of the connection that w has seen are those that v had seen, and this one, and they are
+  -- as many as it took.
   pub record IsDone (v : PassState M) (before : Publication M) (command : Command M) (reply : Reply) (w : PassState M) (next : Publication M) : Type 0 where
     pub begins : IsPrefix v.seen before.history
     pub accepted : is_accepted (after before.history) command ≡ true
     pub replies : reply ≡ reply_to (after before.history) command
     pub published : next.history ≡ before.history ++ command ∷ []
-    pub seen : w.seen ≡ next.history
+    pub same : w ≡ record v { seen = next.history; connection = w.connection; is_closed = w.is_closed; took = v.took + 1 }
     pub own : own_commands w.connection w.seen ≡ own_commands w.connection v.seen ++ command ∷ []
-    pub took : w.took ≡ v.took + 1
     pub all : length (own_commands w.connection w.seen) ≡ w.took
+
+  -- the pass after a call that was Closed, or has ended the bus
+  abbrev pub shut_out : PassState M → PassState M
+  shut_out v = record v { is_shut_out = true }
+
+  -- the pass after a call that was refused so
+  abbrev pub after_error : BusError → PassState M → PassState M
+  after_error error v = record v { is_shut_out = shuts_out error || v.is_shut_out }
 
   -- The state refuses the command. The pass has seen what is published.
   pub record IsRefused (v : PassState M) (before : Publication M) (command : Command M) (error : BusError) (w : PassState M) (next : Publication M) : Type 0 where
@@ -57,7 +65,7 @@ module _ {M : Type 0} where
     pub replies : reply_to (after before.history) command ≡ Refused refusal
     pub error_is : error ≡ error_of refusal
     pub published : next.history ≡ before.history
-    pub seen : w ≡ record v { seen = before.history }
+    pub seen : w ≡ after_error error (record v { seen = before.history })
 
   -- of its own commands the pass finds those that it had seen, and as many as it took
   pub record KeepsOwn (v w : PassState M) : Type 0 where
@@ -76,10 +84,6 @@ module _ {M : Type 0} where
     others : commands_of v.connection (after before.history).connections ≢ v.took → IsShutOut v before
     -- fewer commands are published than it has seen
     fewer : length before.history < length v.seen → IsShutOut v before
-
-  -- the pass after a call that was Closed, or has ended the bus
-  abbrev pub shut_out : PassState M → PassState M
-  shut_out v = record v { is_shut_out = true }
 
   -- Nothing was published, and the pass has seen at least what it had.
   pub record IsStopped (v : PassState M) (before : Publication M) (w : PassState M) (next : Publication M) : Type 0 where

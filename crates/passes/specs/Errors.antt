@@ -1,5 +1,5 @@
 -- The errors of a bus (own).
-use Rattle.std.specs.Prelude.{ℕ, ◌++◌, List, codes}
+use Rattle.std.specs.Prelude.{ℕ, Bool, true, false, ◌++◌, List, codes}
 use Rattle.bpf_verify.specs.Numbers.{verify_error_text}
 use Rattle.fan_out.specs.Errors.{fan_error_name}
 use Rattle.match_key.specs.Errors.{name_of as rule_error_name}
@@ -18,6 +18,11 @@ error_of refusals.RuleNotFound = errors.RuleNotFound
 error_of refusals.NoAttachment = errors.NoAttachment
 error_of refusals.Closed = errors.Closed
 error_of refusals.Stale = errors.Closed
+
+-- whether the pass that is answered so can't call any more
+abbrev pub shuts_out : BusError → Bool
+shuts_out errors.Closed = true
+shuts_out _ = false
 
 abbrev pub bus_error_number : BusError → ℕ
 bus_error_number errors.NoMemory = 1

@@ -1,7 +1,8 @@
 -- Inner: that a pass's seats and the turns under the lock are at the outboxes of the connections whose numbers they have.
-use Rattle.std.specs.Prelude.{◌≡◌, ◌<◌, ℕ, List, Some, None, IsSomeAnd}
+use Rattle.std.specs.Prelude.{◌≡◌, ℕ, Bool, true, false, List, Some, IsSomeAnd, option_map}
 use Rattle.outbox.specs.Seated.{OutboxId}
 use Rattle.program_table.specs.declared.command.Command.{Command}
+use Rattle.program_table.specs.declared.command.Command.TheVariants.{Connect, Close}
 use Rattle.program_table.specs.Connections.{mailbox_of}
 use Rattle.program_table.specs.History.{after}
 use Rattle.routing.specs.SenderView.{RecipientSeatView}
@@ -18,7 +19,12 @@ module _ {M : Type 0} where
   abbrev pub AreTheirs : (M → OutboxId) → List (Command M) → List RecipientSeatView → Type 0
   AreTheirs outbox_of seen recipient_seats = (n : ℕ) (outbox : OutboxId) → outbox_at n recipient_seats ≡ Some outbox → IsGiven outbox_of seen n outbox
 
-  -- there is a turn for each connection that is there, of its outbox; and none of a number that wasn't given yet
-  pub record HaveTurns (outbox_of : M → OutboxId) (history : List (Command M)) (turns : List TurnView) : Type 0 where
-    pub theirs : (n : ℕ) (m : M) → mailbox_of n (after history).connections ≡ Some m → queue_at n turns ≡ Some (outbox_of m).queue
-    pub given : (n : ℕ) → (after history).last_connection < n → queue_at n turns ≡ None
+  -- the turns are those of the outboxes of the connections that are there, and there is no other
+  abbrev pub HaveTurns : (M → OutboxId) → List (Command M) → List TurnView → Type 0
+  HaveTurns outbox_of history turns = (n : ℕ) → queue_at n turns ≡ option_map (λ (m : M). (outbox_of m).queue) (mailbox_of n (after history).connections)
+
+  -- the command makes no connection, and closes none
+  abbrev pub keeps_connections : Command M → Bool
+  keeps_connections (Connect m) = false
+  keeps_connections (Close n) = false
+  keeps_connections _ = true

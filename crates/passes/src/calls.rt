@@ -1,10 +1,10 @@
 // The calls that publish a command of a pass's connection.
 
-ghost use Rattle.std.specs.Prelude.{true, false};
+ghost use Rattle.std.specs.Prelude.{◌≡◌, true, false, IfErr};
 ghost use Rattle.program_table.specs.declared.command.Command.TheVariants.{Detach, Request, Release, DropOne, Close};
 ghost use Rattle.passes.specs.Calls.{Answers};
 
-use crate::control::Control;
+use crate::control::{Control, publish};
 use crate::error::BusError;
 use crate::pass::Pass;
 use owners::WellKnown;
@@ -55,12 +55,16 @@ impl<B: BusBrand, M: Mailbox, R: Wait + Drop> Control<B, M, R> {
         self.command(pass, Command::DropOne(connection))
     }
 
-    /// Closes the connection, with its entries and claims.
+    /// Closes the pass's connection, with its entries and claims, and gives up the turn of its outbox. A pass that couldn't close it
+    /// is shut out.
     pub fn close(&mut self, pass: &mut Pass<B, M>) -> Result<Reply, BusError>
-        ensures { Answers true pass.old self.old (Close pass.old.connection) result pass.new self.new }
+        ensures answer { Answers true pass.old self.old (Close pass.old.connection) result pass.new self.new }
+        ensures shut { IfErr result (λ _. pass.new.is_shut_out ≡ true) }
     {
+        self.admit(pass)?;
         let connection = pass.connection();
-        let reply = self.command(pass, Command::Close(connection))?;
+        let command = Command::Close(connection);
+        let reply = publish(&mut self.publisher.value, pass, command)?;
         pass.close();
         self.turns.remove(connection);
         Ok(reply)

@@ -8,6 +8,7 @@ ghost use Rattle.published.specs.Publication.{Publication, nothing_published};
 ghost use Rattle.passes.specs.Passes.{PassState, new_pass};
 ghost use Rattle.passes.specs.Calls.{Answers, ClaimsNothing, ClaimsOrIsGone, Connects, Limits};
 ghost use Rattle.passes.specs.Readiness.{Admits, IsReady};
+ghost use Rattle.passes.specs.Theirs.{keeps_connections};
 
 use crate::error::BusError;
 use crate::pass::Pass;
@@ -165,7 +166,7 @@ impl<B: BusBrand, M: Mailbox, R: Wait + Drop> Control<B, M, R> {
         Ok(())
     }
 
-    /// Publishes a command of a pass that was admitted, which the pass has then seen.
+    /// Publishes a command of a pass that was admitted, which the pass has then seen. It makes no connection, and closes none.
     pub(crate) fn publish(
         &mut self,
         pass: &mut Pass<B, M>,
@@ -173,34 +174,20 @@ impl<B: BusBrand, M: Mailbox, R: Wait + Drop> Control<B, M, R> {
     ) -> Result<Reply, BusError>
         requires ready { IsReady pass.old self.old }
         requires own { (s : State M) → is_command_of s pass.old.connection command ≡ true }
+        requires stays { keeps_connections command ≡ true }
         ensures { Answers false pass.old self.old command result pass.new self.new }
     {
-        let reply = match self.publisher.value.publish(command) {
-            Ok(reply) => reply,
-            Err(PublishError::NoMemory) => {
-                pass.shut_out();
-                return Err(BusError::NoMemory);
-            }
-            Err(PublishError::Ended) => {
-                pass.shut_out();
-                return Err(BusError::Closed);
-            }
-        };
-        if let Reply::Refused(refusal) = reply {
-            return Err(BusError::of(refusal));
-        }
-        let connection = pass.connection();
-        pass.count_in(self.publisher.value.front(), connection);
-        Ok(reply)
+        publish(&mut self.publisher.value, pass, command)
     }
 
-    /// Publishes a command of the pass's connection, which the pass has then seen.
+    /// Publishes a command of the pass's connection, which the pass has then seen. It makes no connection, and closes none.
     pub(crate) fn command(
         &mut self,
         pass: &mut Pass<B, M>,
         command: Command<M>,
     ) -> Result<Reply, BusError>
-        requires { (s : State M) → is_command_of s pass.old.connection command ≡ true }
+        requires own { (s : State M) → is_command_of s pass.old.connection command ≡ true }
+        requires stays { keeps_connections command ≡ true }
         ensures { Answers false pass.old self.old command result pass.new self.new }
     {
         self.admit(pass)?;
@@ -253,7 +240,7 @@ impl<B: BusBrand, M: Mailbox, R: Wait + Drop> Control<B, M, R> {
             Err(PublishError::Ended) => return Err(BusError::Closed),
         };
         if let Reply::Refused(refusal) = reply {
-            return Err(BusError::of(refusal));
+            return Err(pass.refuse(BusError::of(refusal)));
         }
         let Reply::Connected(number) = reply else {
             unreachable!()
@@ -262,4 +249,33 @@ impl<B: BusBrand, M: Mailbox, R: Wait + Drop> Control<B, M, R> {
         self.turns.add(number, turn);
         Ok(Reply::Connected(number))
     }
+}
+
+// Publishes a command of a pass that was admitted, which the pass has then seen.
+pub(crate) fn publish<B: BusBrand, M: Mailbox, R: Wait + Drop>(
+    publisher: &mut Publisher<B, M, R>,
+    pass: &mut Pass<B, M>,
+    command: Command<M>,
+) -> Result<Reply, BusError>
+    requires ready { IsReady pass.old publisher.old }
+    requires own { (s : State M) → is_command_of s pass.old.connection command ≡ true }
+    ensures { Answers false pass.old publisher.old command result pass.new publisher.new }
+{
+    let reply = match publisher.publish(command) {
+        Ok(reply) => reply,
+        Err(PublishError::NoMemory) => {
+            pass.shut_out();
+            return Err(BusError::NoMemory);
+        }
+        Err(PublishError::Ended) => {
+            pass.shut_out();
+            return Err(BusError::Closed);
+        }
+    };
+    if let Reply::Refused(refusal) = reply {
+        return Err(pass.refuse(BusError::of(refusal)));
+    }
+    let connection = pass.connection();
+    pass.count_in(publisher.front(), connection);
+    Ok(reply)
 }

@@ -1,7 +1,7 @@
 // Why a call of the bus is refused.
 
 ghost use Rattle.std.specs.Prelude.{◌≡◌};
-ghost use Rattle.passes.specs.Errors.{error_of, bus_error_number};
+ghost use Rattle.passes.specs.Errors.{error_of, shuts_out, bus_error_number};
 ghost use Rattle.passes.specs.Compiling.{compile_error};
 ghost use Rattle.passes.specs.Readings.{rule_error};
 
@@ -69,6 +69,13 @@ impl BusError {
             BusError::Fan(_) => 13,
             BusError::Counts => 14,
         }
+    }
+
+    /// Whether the pass that is answered so can't call any more.
+    pub(crate) fn shuts_out(self) -> bool
+        ensures { result ≡ shuts_out self }
+    {
+        matches!(self, BusError::Closed)
     }
 
     /// The error of a command that the state refuses.

@@ -4,7 +4,7 @@ ghost use Rattle.std.specs.Prelude.{◌≡◌, ◌≢◌, ◌⊎◌, ◌+◌, �
 ghost use mathlib.Core.List.{IsPrefix};
 ghost use Rattle.program_table.specs.History.{own_commands};
 ghost use Rattle.passes.specs.Passes.{PassState, HasTaken, IsOpenTo, new_pass};
-ghost use Rattle.passes.specs.Calls.{shut_out};
+ghost use Rattle.passes.specs.Calls.{after_error, shut_out};
 ghost use Rattle.passes.specs.Sending.{sending};
 ghost use Rattle.passes.specs.Theirs.{AreTheirs};
 
@@ -152,11 +152,20 @@ impl<B: BusBrand, M: Mailbox> Pass<B, M> {
         self.is_closed = true;
     }
 
-    /// Notes that a call of its connection was Closed, or has ended the bus.
+    /// Notes that a call was Closed, or has ended the bus.
     pub(crate) fn shut_out(&mut self)
         ensures { self.new ≡ shut_out self.old }
     {
         self.is_shut_out = true;
+    }
+
+    /// Notes what the state refused, and gives the error of that.
+    pub(crate) fn refuse(&mut self, error: BusError) -> BusError
+        ensures pass { self.new ≡ after_error result self.old }
+        ensures error { result ≡ error }
+    {
+        self.is_shut_out = error.shuts_out() || self.is_shut_out;
+        error
     }
 
     /// Takes out what its messages are sent by, made anew where there was none. Until it is put back, the pass counts

@@ -49,7 +49,7 @@ impl<B: BusBrand, M: Mailbox, R: Wait + Drop> Control<B, M, R> {
         let connection = pass.connection();
         match self.compile_for(alloc, connection, rule) {
             Ok(program) => self.publish(pass, Command::AddRule(connection, program)),
-            Err(error) => Err(error),
+            Err(error) => Err(pass.refuse(error)),
         }
     }
 

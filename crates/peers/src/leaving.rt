@@ -112,7 +112,8 @@ impl<B: BusBrand, M: Mailbox> Peer<B, M> {
         context: &Context<'_, B, M, W, R>,
         lists: &mut RouteLists,
     ) -> Leaving
-        ensures { ClosesPass M.outbox_of self.old result self.new }
+        ensures closes { ClosesPass M.outbox_of self.old result self.new }
+        ensures closed { HasLeft result self.new }
     {
         let mut guard = context.bus.control(context.rt);
         let control = &mut *guard;

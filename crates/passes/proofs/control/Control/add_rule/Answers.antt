@@ -1,4 +1,8 @@
-use Rattle.std.proofs.Common.{refl}
+use Rattle.std.proofs.Common.{refl, sym, subst}
+use Rattle.std.specs.Prelude.{Err}
+use Rattle.program_table.specs.History.{after}
+use Rattle.passes.specs.declared.error.BusError.{BusError}
+use Rattle.passes.specs.Compiling.{Compiles}
 use Rattle.passes.proofs.Adding.{added, not_compiled}
 use Rattle.passes.proofs.control.Control.add_rule.Goals as goal
 
@@ -10,4 +14,5 @@ returns-in-Ok g c =
 pub returns-in-Err : goal.returns-in-Err
 returns-in-Err g c =
     let h = c.in_ok-admit.ensures in
-    not_compiled c.args.pass.now c.admit.new.pass c.args.self.now c.connection-connection.result c.args.rule c.in-Err.error _ h.3 h.2.legal h.0 h.1 c.connection-connection.ensures refl c.in-Err.ensures
+    let C : BusError → Type 0 = λ e. Compiles (after c.args.self.now.history) c.connection-connection.result c.args.rule (Err e) in
+    not_compiled c.args.pass.now c.admit.new.pass c.refuse.new.self c.args.self.now c.connection-connection.result c.args.rule c.refuse.result _ h.3 h.2.legal h.0 h.1 c.connection-connection.ensures refl (subst C (sym c.refuse.ensures.error) c.in-Err.ensures) c.refuse.ensures.pass
