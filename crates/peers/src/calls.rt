@@ -65,7 +65,8 @@ impl<B: BusBrand, M: Mailbox> Peer<B, M> {
         ensures outcome { SendsAtOnce M.outbox_of view.now to.now bytes.now self.old result self.new }
         ensures slow { SlowIfShut result self.new }
     {
-        let _control = context.bus.control(context.rt);
+        let control = context.bus.control(context.rt);
+        let context = &context.under(&control);
         let sent = self.send_by_name(context, to, bytes);
         remember(calls, self.pass.connection(), view.serial(), &sent);
         self.conclude(context, view, sent)

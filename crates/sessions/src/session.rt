@@ -229,6 +229,7 @@ impl<B: BusBrand, M: Mailbox> Session<B, M> {
             alloc,
             bus,
             shares,
+            control: None,
         };
         match self.take_next(&context, lists) {
             Ok(step) => Ok(step),
