@@ -5,9 +5,9 @@
 
 mod monitor;
 mod monitors;
-mod owner;
+mod owners;
 mod shown;
 
 pub use monitors::Monitors;
-pub use owner::Owner;
+pub use owners::Owners;
 pub use routing::Mailbox;

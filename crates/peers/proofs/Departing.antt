@@ -1,6 +1,6 @@
 -- How a peer leaves the bus.
 use Rattle.std.proofs.Common.{◌≡◌, true, [], append-nil, Some, None, Result, Ok, Err, inl, inr, refl, sym, ap, subst, ◌∙◌}
-use Rattle.std.specs.Prelude.{IfErr}
+use Rattle.std.specs.Prelude.{codes, IfErr}
 use Rattle.outbox.specs.Seated.{OutboxId}
 use Rattle.message_build.specs.Asked.{Asked}
 use Rattle.router.specs.Standing.TheVariants as standings
@@ -13,13 +13,14 @@ use Rattle.router.specs.Passes.{PassState}
 use Rattle.router.specs.Publication.{Publication}
 use Rattle.router.specs.Reply.{Reply}
 use Rattle.peers.specs.declared.error.AnswerError.{AnswerError}
+use Rattle.peers.specs.declared.leaving.Farewell.{Farewell}
 use Rattle.peers.specs.declared.leaving.Giving.{Giving}
 use Rattle.peers.specs.declared.leaving.Giving.TheVariants.{Last}
 use Rattle.peers.specs.declared.leaving.Leaving.{Leaving}
 use Rattle.peers.specs.declared.leaving.Leaving.TheVariants.{Done}
-use Rattle.peers.specs.Announcements.{IsSignalled, change_asked}
+use Rattle.peers.specs.Announcements.{IsSignalled, TellsOwner, change_asked}
 use Rattle.peers.specs.Calling.{AnswersCallers}
-use Rattle.peers.specs.Departure.{IsClosing, ClosesPass, GivesUpName, HasLeft, giving_of}
+use Rattle.peers.specs.Departure.{IsClosing, ClosesPass, GivesUpName, HasLeft, giving_of, told_by}
 use Rattle.peers.specs.OwnerChanges.{ChangesOwner}
 use Rattle.peers.specs.Passing.{HasSeenMore, with_pass}
 use Rattle.peers.specs.PeerState.{PeerState, name_of}
@@ -45,11 +46,14 @@ module _ {M : Type 0} where
   name_given outbox_of u v pass w now before next asked announced giving is claims changes gives =
       let P : PeerState M → Type 0 = λ s. GivesUpName outbox_of s giving w in subst P is (pass, looked u.pass pass now claims, inl (asked, announced, (before, next, changes), gives))
 
-  pub closed : (outbox_of : M → OutboxId) (u v w : PeerState M) (before next : Publication M) (asked : Result Reply BusError) (pass : PassState M) (leaving : Leaving) → u ≡ v → Answers true u.pass before (Close u.pass.connection) asked pass next → IsClosing outbox_of next.history asked (with_pass u pass) leaving w
-      → ClosesPass outbox_of v leaving w
-  closed outbox_of u v w before next asked pass leaving is d g =
-      let P : PeerState M → Type 0 = λ s. Answers true s.pass before (Close s.pass.connection) asked pass next × IsClosing outbox_of next.history asked (with_pass s pass) leaving w in
-      (asked, pass, (before, next, subst P is (d, g)))
+  -- after the farewell the pass was closed
+  pub closed : (outbox_of : M → OutboxId) (farewell : Farewell) (v mid u w : PeerState M) (before told next : Publication M) (lost : Result (Unit {0}) AnswerError) (asked : Result Reply BusError) (pass : PassState M) (leaving : Leaving) → u ≡ mid → told ≡ before
+      → TellsOwner standings.Next outbox_of before.history (codes "NameLost") (name_of v) (told_by farewell v) v lost mid
+      → Answers true u.pass told (Close u.pass.connection) asked pass next → IsClosing outbox_of next.history asked (with_pass u pass) leaving w → ClosesPass outbox_of farewell v leaving w
+  closed outbox_of farewell v mid u w before told next lost asked pass leaving is same tells d g =
+      let P : PeerState M → Type 0 = λ s. Answers true s.pass told (Close s.pass.connection) asked pass next × IsClosing outbox_of next.history asked (with_pass s pass) leaving w in
+      let Q : Publication M → Type 0 = λ p. Answers true mid.pass p (Close mid.pass.connection) asked pass next in
+      let moved = subst P is (d, g) in (before, next, (mid, lost, asked, pass, tells, subst Q same moved.0, moved.1))
 
   -- a signal of the bus closes no pass and opens none
   signalled : (outbox_of : M → OutboxId) (asked : Asked) (v w : PassState M) (result : Result (Unit {0}) AnswerError) → IsSignalled standings.Last outbox_of asked v result w → w.is_closed ≡ v.is_closed

@@ -1,5 +1,5 @@
 -- How a peer leaves the bus (own).
-use Rattle.std.specs.Prelude.{ℕ, zero, suc, ◌≡◌, ◌⊎◌, ◌<◌, Bool, true, false, List, Some, None, Result, Ok, Err}
+use Rattle.std.specs.Prelude.{ℕ, zero, suc, ◌≡◌, ◌⊎◌, ◌<◌, Bool, true, false, List, codes, Option, Some, None, Result, Ok, Err}
 use Rattle.outbox.specs.Seated.{OutboxId}
 use Rattle.owners.specs.Registry.{max_claims}
 use Rattle.router.specs.BusError.{BusError}
@@ -9,15 +9,18 @@ use Rattle.router.specs.Command.{Command}
 use Rattle.router.specs.Command.TheVariants.{Close}
 use Rattle.router.specs.NameCall.TheVariants.{DropOne}
 use Rattle.router.specs.Passes.{PassState}
+use Rattle.router.specs.Publication.{Publication}
 use Rattle.router.specs.Reply.{Reply}
 use Rattle.router.specs.Reply.TheVariants as replies
 use Rattle.router.specs.Routes.{pass_written}
 use Rattle.peers.specs.declared.error.AnswerError.{AnswerError}
+use Rattle.peers.specs.declared.leaving.Farewell.{Farewell}
+use Rattle.peers.specs.declared.leaving.Farewell.TheVariants.{Silent, Told}
 use Rattle.peers.specs.declared.leaving.Giving.{Giving}
 use Rattle.peers.specs.declared.leaving.Giving.TheVariants as givings
 use Rattle.peers.specs.declared.leaving.Leaving.{Leaving}
 use Rattle.peers.specs.declared.leaving.Leaving.TheVariants.{Done, Ended, Refused}
-use Rattle.peers.specs.Announcements.{HasSignalled, change_asked}
+use Rattle.peers.specs.Announcements.{HasSignalled, TellsOwner, change_asked}
 use Rattle.peers.specs.Calling.{AnswersCallers}
 use Rattle.peers.specs.OwnerChanges.{ChangesOwner}
 use Rattle.router.specs.Standing.TheVariants as standings
@@ -62,11 +65,23 @@ module _ {M : Type 0} where
   IsClosing outbox_of history (Err errors.NoMemory) v leaving w = (leaving ≡ Refused) × (w ≡ v)
   IsClosing outbox_of history (Err _) v leaving w = (leaving ≡ Ended) × (w ≡ v)
 
+  -- whom a farewell tells that the peer's unique name is lost
+  abbrev pub told_by : Farewell → PeerState M → Option ℕ
+  told_by Silent v = None
+  told_by Told v = Some v.pass.connection
+
+  -- The client is told by NameLost that its unique name is lost, if it is to be told, at the place of the next command; and by
+  -- that command the pass is closed.
+  abbrev pub ClosesAfter : (M → OutboxId) → Farewell → PeerState M → Publication M → Leaving → PeerState M → Publication M → Type 0
+  ClosesAfter outbox_of farewell v before leaving w next =
+      (mid : PeerState M) × (lost : Result (Unit {0}) AnswerError) × (asked : Result Reply BusError) × (pass : PassState M)
+      × TellsOwner standings.Next outbox_of before.history (codes "NameLost") (name_of v) (told_by farewell v) v lost mid
+      × Answers true mid.pass before (Close mid.pass.connection) asked pass next
+      × IsClosing outbox_of next.history asked (with_pass mid pass) leaving w
+
   -- the pass is closed
-  abbrev pub ClosesPass : (M → OutboxId) → PeerState M → Leaving → PeerState M → Type 0
-  ClosesPass outbox_of v leaving w =
-      (asked : Result Reply BusError) × (pass : PassState M)
-      × Once (λ before next. Answers true v.pass before (Close v.pass.connection) asked pass next × IsClosing outbox_of next.history asked (with_pass v pass) leaving w)
+  abbrev pub ClosesPass : (M → OutboxId) → Farewell → PeerState M → Leaving → PeerState M → Type 0
+  ClosesPass outbox_of farewell v leaving w = Once (λ before next. ClosesAfter outbox_of farewell v before leaving w next)
 
   -- who waits for the replies of a client that is gone is told that none will come
   abbrev pub AnswersAfter : (M → OutboxId) → Leaving → PeerState M → PeerState M → Type 0
@@ -74,19 +89,24 @@ module _ {M : Type 0} where
   AnswersAfter outbox_of Ended v w = w ≡ v
   AnswersAfter outbox_of Refused v w = w ≡ v
 
-  abbrev pub Closes : (M → OutboxId) → PeerState M → Leaving → PeerState M → Type 0
-  Closes outbox_of v leaving w = (mid : PeerState M) × ClosesPass outbox_of v leaving mid × AnswersAfter outbox_of leaving mid w
+  abbrev pub Closes : (M → OutboxId) → Farewell → PeerState M → Leaving → PeerState M → Type 0
+  Closes outbox_of farewell v leaving w = (mid : PeerState M) × ClosesPass outbox_of farewell v leaving mid × AnswersAfter outbox_of leaving mid w
 
   -- the pass is closed only once no name is left
-  abbrev pub ClosesIf : (M → OutboxId) → Bool → PeerState M → Leaving → PeerState M → Type 0
-  ClosesIf outbox_of true v leaving w = Closes outbox_of v leaving w
-  ClosesIf outbox_of false v leaving w = (leaving ≡ Refused) × (w ≡ v)
+  abbrev pub ClosesIf : (M → OutboxId) → Bool → Farewell → PeerState M → Leaving → PeerState M → Type 0
+  ClosesIf outbox_of true farewell v leaving w = Closes outbox_of farewell v leaving w
+  ClosesIf outbox_of false farewell v leaving w = (leaving ≡ Refused) × (w ≡ v)
 
-  -- A peer leaves: it gives up its names one after the other, each change announced, closes its pass, announces that its own
-  -- name is gone, and tells those who wait for its replies, in this order, and does nothing else. Then nothing that it has put
-  -- to others waits to be written out.
+  -- A peer leaves: it gives up its names one after the other, each change announced, closes its pass after the farewell, announces
+  -- that its own name is gone, and tells those who wait for its replies, in this order, and does nothing else. Then nothing that it
+  -- has put to others waits to be written out.
+  abbrev pub Departs : (M → OutboxId) → Farewell → PeerState M → Leaving → PeerState M → Type 0
+  Departs outbox_of farewell v leaving w =
+      (cleared : Bool) × (mid last : PeerState M) × AreGivenUp outbox_of cleared v mid × ClosesIf outbox_of cleared farewell mid leaving last × (w ≡ with_pass last (pass_written last.pass))
+
+  -- the peer of a client that is gone
   abbrev pub Leaves : (M → OutboxId) → PeerState M → Leaving → PeerState M → Type 0
-  Leaves outbox_of v leaving w = (cleared : Bool) × (mid last : PeerState M) × AreGivenUp outbox_of cleared v mid × ClosesIf outbox_of cleared mid leaving last × (w ≡ with_pass last (pass_written last.pass))
+  Leaves outbox_of v leaving w = Departs outbox_of Silent v leaving w
 
   -- a peer that has left has closed its pass, or that is shut out
   abbrev pub HasLeft : Leaving → PeerState M → Type 0

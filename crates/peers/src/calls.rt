@@ -98,7 +98,8 @@ impl<B: BusBrand, M: Mailbox> Peer<B, M> {
         ensures outcome { CallsAtOnce M.outbox_of request view.now to.now bytes.now calls.old.calls self.old result calls.new.calls self.new }
         ensures slow { SlowIfShut result self.new }
     {
-        let _control = context.bus.control(context.rt);
+        let control = context.bus.control(context.rt);
+        let context = &context.under(&control);
         let caller = self.pass.connection();
         let sent = self.send_by_name(context, to, bytes);
         remember(calls, caller, request.serial, &sent);

@@ -1,7 +1,10 @@
 // What a session's calls work with.
 
+ghost use Rattle.std.specs.Prelude.{◌≡◌};
+
 use crate::shares::Shares;
-use router::{Bus, BusBrand, Mailbox, Pass};
+use bus_messages::Bytes;
+use router::{Bus, BusBrand, Control, Mailbox, Pass};
 use std::alloc::Global;
 use std::sync::Wait;
 
@@ -12,6 +15,8 @@ pub struct Context<'a, B: BusBrand, M: Mailbox, W: Wait, R: Wait + Drop> {
     pub alloc: Global,
     pub bus: &'a Bus<B, M, R>,
     pub shares: Shares,
+    /// What lies under the lock of the bus, if the caller holds it.
+    pub control: Option<&'a Control<B, M, R>>,
 }
 
 impl<'a, B: BusBrand, M: Mailbox, W: Wait, R: Wait + Drop> Context<'a, B, M, W, R> {
@@ -22,6 +27,31 @@ impl<'a, B: BusBrand, M: Mailbox, W: Wait, R: Wait + Drop> Context<'a, B, M, W, 
             alloc,
             bus,
             shares: Shares::unlimited(),
+            control: None,
+        }
+    }
+
+    /// The same by who holds the lock of the bus.
+    pub(crate) fn under<'b>(&'b self, control: &'b Control<B, M, R>) -> Context<'b, B, M, W, R>
+        ensures { result.shares ≡ self.now.shares }
+    {
+        Context {
+            rt: self.rt,
+            alloc: self.alloc,
+            bus: self.bus,
+            shares: self.shares,
+            control: Some(control),
+        }
+    }
+
+    /// Shows a message to those who watch the bus, before it goes on. The number is that of its sender's connection; `None` is
+    /// the bus.
+    pub(crate) fn show(&self, number: Option<u64>, bytes: &Bytes) {
+        match self.control {
+            Some(control) => self
+                .bus
+                .show_under(self.rt, self.alloc, control, number, bytes),
+            None => self.bus.show(self.rt, self.alloc, number, bytes),
         }
     }
 

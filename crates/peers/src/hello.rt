@@ -62,7 +62,7 @@ pub fn put_refusal<B: BusBrand, M: Mailbox, W: Wait, R: Wait + Drop>(
     }
     let serial = Serials::new().take();
     let bytes = error_bytes(context.alloc, serial, None, request, name)?;
-    context.bus.show(context.rt, context.alloc, None, &bytes);
+    context.show(None, &bytes);
     match Item::new(context.alloc, bytes, None) {
         Ok(message) => own.put(context.rt, message),
         Err(_) => Err(AnswerError::NoMemory),

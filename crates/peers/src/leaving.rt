@@ -1,13 +1,26 @@
 // How a peer leaves the bus.
 
-ghost use Rattle.std.specs.Prelude.{◌≡◌};
-ghost use Rattle.peers.specs.Departure.{Leaves, HasLeft, AreGivenUp, GivesUpName, Closes, ClosesPass, IsClosing, giving_of};
+ghost use Rattle.std.specs.Prelude.{◌≡◌, codes};
+ghost use Rattle.peers.specs.Announcements.{TellsOwner};
+ghost use Rattle.peers.specs.Departure.{Departs, Leaves, HasLeft, AreGivenUp, GivesUpName, Closes, ClosesPass, IsClosing, giving_of, told_by};
+ghost use Rattle.peers.specs.PeerState.{name_of};
 
 use crate::context::Context;
+use crate::error::AnswerError;
 use crate::peer::Peer;
+use bus_messages::UniqueName;
 use owners::MAX_CLAIMS;
-use router::{BusBrand, BusError, Control, Mailbox, NameCall, Reply, RouteLists};
+use router::{BusBrand, BusError, Control, Mailbox, NameCall, Reply, RouteLists, Standing};
 use std::sync::Wait;
+
+/// Whether a peer that leaves is told that its unique name is lost.
+#[derive(Clone, Copy, Debug, PartialEq, Eq)]
+pub(crate) enum Farewell {
+    /// Its client is gone.
+    Silent,
+    /// Its client stays, to watch the bus.
+    Told,
+}
 
 /// How far a peer's leaving came.
 #[derive(Clone, Copy, Debug, PartialEq, Eq)]
@@ -42,12 +55,25 @@ impl<B: BusBrand, M: Mailbox> Peer<B, M> {
         ensures leaves { Leaves M.outbox_of self.old result self.new }
         ensures closed { HasLeft result self.new }
     {
+        self.depart(context, lists, Farewell::Silent)
+    }
+
+    /// Leaves the bus, as `leave` says. A client that stays is told that its unique name is lost, before that is announced.
+    pub(crate) fn depart<W: Wait, R: Wait + Drop>(
+        &mut self,
+        context: &Context<'_, B, M, W, R>,
+        lists: &mut RouteLists,
+        farewell: Farewell,
+    ) -> Leaving
+        ensures leaves { Departs M.outbox_of farewell self.old result self.new }
+        ensures closed { HasLeft result self.new }
+    {
         context
             .bus
             .monitors()
             .remove(context.rt, self.pass.connection());
         let leaving = if self.give_up_names(context, lists) {
-            self.close(context, lists)
+            self.close(context, lists, farewell)
         } else {
             Leaving::Refused
         };
@@ -93,11 +119,12 @@ impl<B: BusBrand, M: Mailbox> Peer<B, M> {
         &mut self,
         context: &Context<'_, B, M, W, R>,
         lists: &mut RouteLists,
+        farewell: Farewell,
     ) -> Leaving
-        ensures leaves { Closes M.outbox_of self.old result self.new }
+        ensures leaves { Closes M.outbox_of farewell self.old result self.new }
         ensures closed { HasLeft result self.new }
     {
-        match self.close_pass(context, lists) {
+        match self.close_pass(context, lists, farewell) {
             Leaving::Done => {
                 self.end_calls(context);
                 Leaving::Done
@@ -111,14 +138,37 @@ impl<B: BusBrand, M: Mailbox> Peer<B, M> {
         &mut self,
         context: &Context<'_, B, M, W, R>,
         lists: &mut RouteLists,
+        farewell: Farewell,
     ) -> Leaving
-        ensures closes { ClosesPass M.outbox_of self.old result self.new }
+        ensures closes { ClosesPass M.outbox_of farewell self.old result self.new }
         ensures closed { HasLeft result self.new }
     {
         let mut guard = context.bus.control(context.rt);
         let control = &mut *guard;
+        // One whose outbox has no room for this is Slow at its next step.
+        let _ = self.bid_farewell(context, control, farewell);
         let closed = control.close(&mut self.pass);
         self.announce_closed(context, lists, control, closed)
+    }
+
+    // Tells a client that stays that its unique name is lost, at the place of the command that will close its pass.
+    fn bid_farewell<W: Wait, R: Wait + Drop>(
+        &mut self,
+        context: &Context<'_, B, M, W, R>,
+        control: &mut Control<B, M, R>,
+        farewell: Farewell,
+    ) -> Result<(), AnswerError>
+        ensures told { TellsOwner Standing.Next M.outbox_of control.old.history (codes "NameLost") (name_of self.old) (told_by farewell self.old) self.old result self.new }
+        ensures control { control.new ≡ control.old }
+    {
+        match farewell {
+            Farewell::Silent => Ok(()),
+            Farewell::Told => {
+                let number = self.pass.connection();
+                let name = UniqueName::new(number);
+                self.tell_lost(context, control, Standing::Next, number, name.as_str())
+            }
+        }
     }
 
     // Announces that the client's unique name is gone, if its pass was closed.

@@ -1,25 +1,20 @@
 // Clients that watch all that goes through the bus.
 
-ghost use Rattle.std.specs.Prelude.{◌≡◌, codes, IfErr};
-ghost use Rattle.message_build.specs.Asked.{Asked};
-ghost use Rattle.message_build.specs.Building.{AreAsked};
-ghost use Rattle.bus_messages.specs.Sent.{Builds};
-ghost use Rattle.peers.specs.Announcements.{told_asked};
-ghost use Rattle.peers.specs.Answers.{IsPut, UnlessShut, after_serial};
-ghost use Rattle.peers.specs.Monitoring.{BecomesMonitor, Watches, GoesUnder};
-ghost use Rattle.peers.specs.PeerState.{name_of};
+ghost use Rattle.std.specs.Prelude.{◌≡◌, IfErr};
+ghost use Rattle.peers.specs.Answers.{UnlessShut};
+ghost use Rattle.peers.specs.Monitoring.{BecomesMonitor, Watches, GoesUnder, outcome_of};
 
 use crate::context::Context;
 use crate::error::AnswerError;
-use crate::leaving::Leaving;
+use crate::leaving::{Farewell, Leaving};
 use crate::peer::Peer;
 use crate::refused::Refused;
 use crate::request::Request;
 use crate::sending::stamp_message;
-use bus_messages::{Body, BuildError, Bytes, ErrorName, UniqueName, name_lost};
+use bus_messages::{Body, ErrorName};
 use match_rule::Rule;
 use message_view::View;
-use router::{BusBrand, BusError, Mailbox, RouteLists};
+use router::{BusBrand, BusError, Control, Mailbox, RouteLists};
 use std::alloc::Global;
 use std::sync::Wait;
 
@@ -31,37 +26,28 @@ impl<B: BusBrand, M: Mailbox> Peer<B, M> {
         context: &Context<'_, B, M, W, R>,
         view: &View<'_>,
     ) {
-        self.show_from(context, view, Some(self.pass.connection()));
-    }
-
-    /// Shows the client's first message, as `show` does, under the lock of the bus. It owns no well-known name yet, so nobody
-    /// has to be asked whose it is.
-    pub fn show_first<W: Wait, R: Wait + Drop>(
-        &self,
-        context: &Context<'_, B, M, W, R>,
-        view: &View<'_>,
-    ) {
-        self.show_from(context, view, None);
-    }
-
-    // Shows a message of one whose well-known names are those of this connection, or none.
-    fn show_from<W: Wait, R: Wait + Drop>(
-        &self,
-        context: &Context<'_, B, M, W, R>,
-        view: &View<'_>,
-        owner: Option<u64>,
-    ) {
         if context.bus.monitors().is_empty() {
             return;
         }
         if let Ok(bytes) = stamp_message(context.alloc, view, &self.name) {
-            context.bus.show(context.rt, context.alloc, owner, &bytes);
+            context.show(Some(self.pass.connection()), &bytes);
         }
+    }
+
+    /// Shows the client's first message, as `show` does, by who holds the lock of the bus.
+    pub fn show_first<W: Wait, R: Wait + Drop>(
+        &self,
+        context: &Context<'_, B, M, W, R>,
+        control: &Control<B, M, R>,
+        view: &View<'_>,
+    ) {
+        self.show(&context.under(control), view);
     }
 
     /// Has the client watch all that goes through the bus, as far as one of these rules holds of it, or everything if there are
     /// none (D-Bus Specification, "Message Bus Messages": BecomeMonitor). Its call is answered; then it leaves the bus with all
-    /// its names, of which its unique one is the last that it is told to have lost, and what it sends later ends its session.
+    /// its names. It is told of each that it is lost, of its unique one last, before that is announced. What it sends later ends its
+    /// session.
     ///
     /// # Errors
     ///
@@ -130,7 +116,7 @@ impl<B: BusBrand, M: Mailbox> Peer<B, M> {
         }
     }
 
-    // Leaves the bus, and tells the client that it has lost its unique name.
+    // Leaves the bus. Its client stays, and is told so.
     fn go_under<W: Wait, R: Wait + Drop>(
         &mut self,
         context: &Context<'_, B, M, W, R>,
@@ -139,41 +125,18 @@ impl<B: BusBrand, M: Mailbox> Peer<B, M> {
         ensures gone { GoesUnder M.outbox_of self.old result self.new }
         ensures error { IfErr result (λ error. error ≡ AnswerError.NoMemory) }
     {
-        match self.leave(context, lists) {
-            Leaving::Done => {
-                // One whose outbox has no room for this is Slow at its next step.
-                let _ = self.lose_own_name(context);
-                Ok(())
-            }
-            Leaving::Ended | Leaving::Refused => Err(AnswerError::NoMemory),
-        }
+        let leaving = self.depart(context, lists, Farewell::Told);
+        outcome_of(leaving)
     }
+}
 
-    // Tells the client that it has lost its unique name.
-    fn lose_own_name<W: Wait, R: Wait + Drop>(
-        &mut self,
-        context: &Context<'_, B, M, W, R>,
-    ) -> Result<(), AnswerError>
-        ensures { IsPut (AreAsked (told_asked self.old.serial (codes "NameLost") (name_of self.old) self.old.pass.connection)) (after_serial self.old) result self.new }
-    {
-        let serial = self.serials.take();
-        let name = UniqueName::new(self.pass.connection());
-        let built_message = name_lost(context.alloc, serial, name.as_str(), name.as_str());
-        self.tell_client(context, built_message)
-    }
-
-    // Puts a message of the bus to the client itself.
-    fn tell_client<W: Wait, R: Wait + Drop>(
-        &mut self,
-        context: &Context<'_, B, M, W, R>,
-        built_message: Result<Bytes, BuildError>,
-    ) -> Result<(), AnswerError>
-        ensures { (asked : Asked) → Builds asked built_message → IsPut (AreAsked asked) self.old result self.new }
-    {
-        match built_message {
-            Ok(bytes) => self.put(context, bytes),
-            Err(_) => Err(AnswerError::NoMemory),
-        }
+// What becomes of a call to leave the bus.
+fn outcome_of(leaving: Leaving) -> Result<(), AnswerError>
+    ensures { result ≡ outcome_of leaving }
+{
+    match leaving {
+        Leaving::Done => Ok(()),
+        Leaving::Ended | Leaving::Refused => Err(AnswerError::NoMemory),
     }
 }
 

@@ -91,7 +91,7 @@ impl<B: BusBrand, M: Mailbox> Peer<B, M> {
             ..Counts::none()
         });
         let number = Some(self.pass.connection());
-        context.bus.show(context.rt, context.alloc, number, bytes);
+        context.show(number, bytes);
         match view.kind() {
             Kind::MethodCall => self.send_call(context, view, to, bytes),
             Kind::MethodReturn => self.send_reply(context, view, to, bytes),
@@ -134,7 +134,8 @@ impl<B: BusBrand, M: Mailbox> Peer<B, M> {
         ensures outcome { SendsAtOnce M.outbox_of view.now to.now bytes.now self.old result self.new }
         ensures slow { SlowIfShut result self.new }
     {
-        let _control = context.bus.control(context.rt);
+        let control = context.bus.control(context.rt);
+        let context = &context.under(&control);
         let sent = self.send_by_name(context, to, bytes);
         self.conclude(context, view, sent)
     }

@@ -30,7 +30,7 @@ const BUSY: u32 = 2;
 const LONG: u64 = 1_048_576;
 
 /// What becomes of a connection after its turn.
-#[derive(Clone, Copy, PartialEq, Eq)]
+#[derive(Clone, Copy)]
 pub(crate) enum Turn {
     /// It waits for the poll.
     Waits,
@@ -155,6 +155,14 @@ impl<B: BusBrand> Connection<B> {
     /// The number of its unique name, once its Hello was answered.
     pub(crate) fn number(&self) -> Option<u64> {
         self.session.number()
+    }
+
+    /// A cause of its end, with the message that came in the place of Hello.
+    pub(crate) fn told(&self, cause: Cause) -> Cause {
+        match (cause, self.session.opening()) {
+            (Cause::Session(SessionError::NoHello), Some(opening)) => Cause::Opening(opening),
+            _ => cause,
+        }
     }
 
     /// Counts its client among those that are in, once its Hello is answered: before the answer is written, so that

@@ -1,14 +1,16 @@
 // What whoever runs a bus may want to know.
 
 use crate::limit::Limit;
-use sessions::SessionError;
+use sessions::{Opening, SessionError};
 use std::fmt;
 
 /// Why the bus ended a session.
-#[derive(Clone, Copy, Debug, PartialEq, Eq)]
+#[derive(Clone, Copy, Debug)]
 pub enum Cause {
     /// What its client sent or took, or want of memory.
     Session(SessionError),
+    /// What came in the place of Hello, or a Hello that was refused.
+    Opening(Opening),
     /// It was kept by no limit of this kind.
     Limit(Limit),
     /// The bus ends, and with it all sessions.
@@ -28,6 +30,7 @@ impl fmt::Display for Cause {
     fn fmt<W: fmt::Write>(&self, f: &mut fmt::Formatter<W>) -> fmt::Result {
         match self {
             Cause::Session(error) => write!(f, "{error}"),
+            Cause::Opening(opening) => write!(f, "NoHello ({opening})"),
             Cause::Limit(limit) => f.write_str(limit.name()),
             Cause::BusEnds => f.write_str("the bus ends"),
         }
@@ -35,7 +38,7 @@ impl fmt::Display for Cause {
 }
 
 /// What happened on a bus. A client is known by the number of its unique name, which it has from Hello on.
-#[derive(Clone, Copy, Debug, PartialEq, Eq)]
+#[derive(Clone, Copy, Debug)]
 pub enum Note {
     /// Its Hello was accepted.
     Came(u64),

@@ -343,6 +343,7 @@ impl<'a, B: BusBrand, R: Wait + Drop> Worker<'a, B, R> {
         if !connection.is_in && !self.server.newcomers.leave(rt, connection.ticket) {
             cause = Some(Cause::Limit(Limit::Newcomers));
         }
+        let cause = cause.map(|cause| connection.told(cause));
         let number = connection.number();
         self.find_reader(rt);
         connection.lend(self.reader.take());

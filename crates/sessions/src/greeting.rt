@@ -66,7 +66,7 @@ fn let_in<B: BusBrand, M: Mailbox, W: Wait, R: Wait + Drop>(
     match join(control, &mut pass, &mut own) {
         Ok(()) => {
             let mut peer = Peer::new(context.alloc, pass, own, identity);
-            peer.show_first(context, view);
+            peer.show_first(context, control, view);
             let registered = peer.register(context, lists, control, Request::of(view));
             Ok((peer, registered))
         }

@@ -1,7 +1,10 @@
 // A client's session.
 
-ghost use Rattle.std.specs.Prelude.{◌≡◌, [], None, IfErr, IfOk, IfSome, is_some, length, true};
+ghost use Rattle.std.specs.Prelude.{◌≡◌, ◌++◌, ℕ, List, [], None, IfErr, IfOk, IfSome, is_some, length, true};
 ghost use Rattle.auth.specs.Admissions.{any_admission};
+ghost use Rattle.message_view.specs.Message.{Message};
+ghost use Rattle.message_view.specs.Valid.{Valid};
+ghost use Rattle.sessions.specs.Openings.{IsOpeningOf};
 ghost use Rattle.sessions.specs.Steps.{Feeds, IsShutIf, Steps, TakesNext, TakesMessage, TakesLine};
 ghost use Rattle.sessions.specs.Ends.{EndsAny};
 ghost use Rattle.sessions.specs.Subjects.{HasLooked, IsNextSubject};
@@ -10,6 +13,7 @@ ghost use Rattle.sessions.specs.SessionState.{connection_of, new_session, client
 use crate::client::Client;
 use crate::ending::{Rest, end};
 use crate::error::SessionError;
+use crate::opening::Opening;
 use crate::step::Step;
 use crate::talk::Talk;
 use auth::Admission;
@@ -172,6 +176,16 @@ impl<B: BusBrand, M: Mailbox> Session<B, M> {
         }
     }
 
+    /// The message that stands in front: the one that has ended the session, once a step has answered why.
+    pub fn opening(&self) -> Option<Opening>
+        ensures { IfSome result (λ opening. (bytes rest : List ℕ) × (self.now.unread ≡ bytes ++ rest) × ((m : Message) → Valid bytes m → IsOpeningOf m opening)) }
+    {
+        match &self.input.front() {
+            Ok(Some(view)) => Some(Opening::of(view)),
+            Ok(None) | Err(_) => None,
+        }
+    }
+
     /// Keeps the client's next bytes.
     ///
     /// # Errors
@@ -229,6 +243,7 @@ impl<B: BusBrand, M: Mailbox> Session<B, M> {
             alloc,
             bus,
             shares,
+            control: None,
         };
         match self.take_next(&context, lists) {
             Ok(step) => Ok(step),
