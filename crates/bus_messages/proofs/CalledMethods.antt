@@ -2,7 +2,7 @@
 use Rattle.std.proofs.Common.{◌≡◌, Bool, true, false, cond, List, [], ◌∷◌, map, Option, Some, None, option_map, refl, sym, ap, ◌∙◌}
 use Rattle.std.specs.Borrow.{Bor}
 use Rattle.std.specs.List.{find}
-use Rattle.bus_messages.specs.declared.method.MethodEntry.{MethodEntry}
+use Rattle.bus_messages.specs.declared.call.MethodEntry.{MethodEntry}
 use Rattle.bus_messages.specs.Methods.{MethodRow, methods}
 use Rattle.bus_messages.specs.Rows.{method_row_of}
 

@@ -1,16 +1,14 @@
 -- What GetAll is read as, by the interface that it names.
-use Rattle.std.proofs.Common.{ℕ, ◌≡◌, ◌||◌, Bool, true, false, List, Option, Some, refl}
-use Rattle.std.specs.Prelude.{Result, Ok, Err, codes, if◌then◌else◌}
+use Rattle.std.proofs.Common.{ℕ, ◌≡◌, ◌||◌, Bool, true, false, List, Some, refl}
+use Rattle.std.specs.Prelude.{Ok, Err, codes, if◌then◌else◌}
 use Rattle.std.specs.Str.{bytes_eq}
 use Rattle.bus_messages.specs.declared.call.Call.TheVariants as calls
 use Rattle.bus_messages.specs.declared.call.CallError.TheVariants.{UnknownInterface}
-use Rattle.bus_messages.specs.declared.method.Method.TheVariants as names
 use Rattle.bus_messages.specs.Arguments.{Given, first_text}
-use Rattle.bus_messages.specs.Calls.{Understands, is_named}
 use Rattle.bus_messages.specs.CallAnswers.{properties_of}
-use Rattle.bus_messages.specs.Introspection.{is_interface}
-use Rattle.bus_messages.specs.Methods.{bus}
+use Rattle.bus_messages.specs.Interfaces.{bus, is_interface}
 use Rattle.bus_messages.specs.Properties.{has_properties}
+use Rattle.bus_messages.specs.Readings.{ReadsInterface}
 
 either : (a b r : Bool) → (a || b) ≡ true → (a || (b || r)) ≡ true
 either true b r e = refl
@@ -26,10 +24,10 @@ neither true b r e f = absurd cc
 neither false b r e f = f
 
 read_as : (interface : List ℕ) (args_left : Given) → first_text args_left ≡ Some interface → (has known : Bool) → has_properties interface ≡ has → is_interface interface ≡ known
-    → Understands names.GetAll args_left (if has then Ok calls.GetAll else if known then Ok calls.GetAllOfNone else Err UnknownInterface)
-read_as interface args_left first true known has is = (refl, (interface, first, either (bytes_eq interface (codes "")) (bytes_eq interface bus) _ has, has))
-read_as interface args_left first false true has is = (refl, (interface, first, second (bytes_eq interface (codes "")) (is_interface interface) is, has))
-read_as interface args_left first false false has is = (refl, (interface, first, neither (bytes_eq interface (codes "")) (bytes_eq interface bus) (is_interface interface) has is))
+    → ReadsInterface args_left (if has then Ok calls.GetAll else if known then Ok calls.GetAllOfNone else Err UnknownInterface)
+read_as interface args_left first true known has is = (interface, first, either (bytes_eq interface (codes "")) (bytes_eq interface bus) _ has, has)
+read_as interface args_left first false true has is = (interface, first, second (bytes_eq interface (codes "")) (is_interface interface) is, has)
+read_as interface args_left first false false has is = (interface, first, neither (bytes_eq interface (codes "")) (bytes_eq interface bus) (is_interface interface) has is)
 
-pub properties_read : (interface : List ℕ) (args_left : Given) → first_text args_left ≡ Some interface → Understands names.GetAll args_left (properties_of interface)
+pub properties_read : (interface : List ℕ) (args_left : Given) → first_text args_left ≡ Some interface → ReadsInterface args_left (properties_of interface)
 properties_read interface args_left first = read_as interface args_left first (has_properties interface) (is_interface interface) refl refl

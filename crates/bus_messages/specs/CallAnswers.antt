@@ -4,7 +4,7 @@ use Rattle.bus_messages.specs.declared.call.Call.{Call}
 use Rattle.bus_messages.specs.declared.call.Call.TheVariants.{GetAll, GetAllOfNone}
 use Rattle.bus_messages.specs.declared.call.CallError.{CallError}
 use Rattle.bus_messages.specs.declared.call.CallError.TheVariants.{UnknownInterface}
-use Rattle.bus_messages.specs.Introspection.{is_interface}
+use Rattle.bus_messages.specs.Interfaces.{is_interface}
 use Rattle.bus_messages.specs.Properties.{has_properties}
 
 -- the properties of an interface

@@ -1,19 +1,12 @@
 -- What Introspect answers (D-Bus Specification, "Introspection Data Format").
-use Rattle.std.specs.Prelude.{ℕ, Bool, List, [], ◌∷◌, ◌++◌, codes, filter, Option, Some, None, if◌then◌else◌}
-use Rattle.std.specs.List.{flat_map, list_any}
+use Rattle.std.specs.Prelude.{ℕ, List, [], ◌++◌, codes, filter, Option, Some, None, if◌then◌else◌}
+use Rattle.std.specs.List.{flat_map}
 use Rattle.std.specs.Str.{bytes_eq}
 use Rattle.signature.specs.DataType.{DataTypes, slices}
 use Rattle.signature.specs.Trees.{types_of}
 use Rattle.bus_messages.specs.declared.introspect.TheConstants.{HEAD, SIGNALS}
-use Rattle.bus_messages.specs.Methods.{MethodRow, methods, bus, peer, programs, introspectable, properties, monitoring, stats}
-
--- the interfaces of the bus, in the order in which they are described
-abbrev pub interfaces : List (List ℕ)
-interfaces = bus ∷ peer ∷ programs ∷ introspectable ∷ properties ∷ monitoring ∷ stats ∷ []
-
--- whether the bus has an interface
-abbrev pub is_interface : List ℕ → Bool
-is_interface name = list_any (λ interface. bytes_eq name interface) interfaces
+use Rattle.bus_messages.specs.Interfaces.{bus, interfaces}
+use Rattle.bus_messages.specs.Methods.{MethodRow, methods}
 
 -- the texts of the types of a signature
 abbrev pub types_in : Option DataTypes → List (List ℕ)

@@ -5,9 +5,11 @@ pub mod CallErrors
 pub mod Calls
 pub mod ErrorNames
 pub mod FilterFaults
+pub mod Interfaces
 pub mod Introspection
 pub mod Methods
 pub mod Properties
+pub mod Readings
 pub mod Rows
 pub mod Sent
 pub use Rattle.unique_name.specs.UniqueNames

@@ -1,10 +1,16 @@
 -- The methods of the bus (D-Bus Specification, "Message Bus Messages", "Standard Interfaces"; those of Debug.Stats are the
 -- reference bus's).
-use Rattle.std.specs.Prelude.{ℕ, Bool, true, false, ◌||◌, List, [], ◌∷◌, codes, Option, Some, None, ◌&&◌}
+use Rattle.std.specs.Prelude.{ℕ, Bool, true, List, [], ◌∷◌, codes, Option, Some, None, ◌&&◌, Result}
 use Rattle.std.specs.List.{find}
 use Rattle.std.specs.Str.{bytes_eq}
-use Rattle.bus_messages.specs.declared.method.Method.{Method}
-use Rattle.bus_messages.specs.declared.method.Method.TheVariants.{Hello, AddMatch, RemoveMatch, RequestName, ReleaseName, GetNameOwner, NameHasOwner, ListNames, Ping, Attach, AttachEdition, AttachFilter, Detach, StartServiceByName, ListActivatableNames, ListQueuedOwners, GetId, GetConnectionUnixUser, GetConnectionUnixProcessId, GetConnectionCredentials, GetAdtAuditSessionData, GetConnectionSelinuxSecurityContext, GetMachineId, Introspect, Get, GetAll, Set, UpdateActivationEnvironment, ReloadConfig, BecomeMonitor, GetStats, GetConnectionStats, GetAllMatchRules}
+use Rattle.bus_messages.specs.declared.call.Call.{Call}
+use Rattle.bus_messages.specs.declared.call.Call.TheVariants as calls
+use Rattle.bus_messages.specs.declared.call.CallError.{CallError}
+use Rattle.bus_messages.specs.declared.call.Method.{Method}
+use Rattle.bus_messages.specs.declared.call.Method.TheVariants as names
+use Rattle.bus_messages.specs.Arguments.{Given}
+use Rattle.bus_messages.specs.Interfaces.{bus, peer, programs, introspectable, properties, monitoring, stats}
+use Rattle.bus_messages.specs.Readings.{ReadsNothing, ReadsText, ReadsRequest, ReadsId, ReadsProgram, ReadsEdition, ReadsRules, ReadsProperty, ReadsInterface, RefusesToSet}
 
 -- a method, what it is called, and the signatures of its arguments and of its answer
 pub record MethodRow : Type 0 where
@@ -14,76 +20,82 @@ pub record MethodRow : Type 0 where
   pub takes : List ℕ
   pub gives : List ℕ
 
-abbrev pub bus : List ℕ
-bus = codes "org.freedesktop.DBus"
-
-abbrev pub peer : List ℕ
-peer = codes "org.freedesktop.DBus.Peer"
-
-abbrev pub programs : List ℕ
-programs = codes "org.example.ProgramBus1"
-
-abbrev pub introspectable : List ℕ
-introspectable = codes "org.freedesktop.DBus.Introspectable"
-
-abbrev pub properties : List ℕ
-properties = codes "org.freedesktop.DBus.Properties"
-
-abbrev pub monitoring : List ℕ
-monitoring = codes "org.freedesktop.DBus.Monitoring"
-
-abbrev pub stats : List ℕ
-stats = codes "org.freedesktop.DBus.Debug.Stats"
-
 abbrev pub row_of : Method → List ℕ → List ℕ → List ℕ → List ℕ → MethodRow
 row_of method interface member takes gives = record { method = method; interface = interface; member = member; takes = takes; gives = gives }
 
 -- every method of the bus
 unfoldable pub methods : List MethodRow
 methods =
-    row_of Hello bus (codes "Hello") [] (codes "s")
-    ∷ row_of AddMatch bus (codes "AddMatch") (codes "s") []
-    ∷ row_of RemoveMatch bus (codes "RemoveMatch") (codes "s") []
-    ∷ row_of RequestName bus (codes "RequestName") (codes "su") (codes "u")
-    ∷ row_of ReleaseName bus (codes "ReleaseName") (codes "s") (codes "u")
-    ∷ row_of GetNameOwner bus (codes "GetNameOwner") (codes "s") (codes "s")
-    ∷ row_of NameHasOwner bus (codes "NameHasOwner") (codes "s") (codes "b")
-    ∷ row_of ListNames bus (codes "ListNames") [] (codes "as")
-    ∷ row_of Ping peer (codes "Ping") [] []
-    ∷ row_of Attach programs (codes "Attach") (codes "a(qyyu)") (codes "u")
-    ∷ row_of AttachEdition programs (codes "AttachEdition") (codes "ua(qyyu)") (codes "u")
-    ∷ row_of AttachFilter programs (codes "AttachFilter") (codes "s") (codes "u")
-    ∷ row_of Detach programs (codes "Detach") (codes "u") []
-    ∷ row_of StartServiceByName bus (codes "StartServiceByName") (codes "su") (codes "u")
-    ∷ row_of ListActivatableNames bus (codes "ListActivatableNames") [] (codes "as")
-    ∷ row_of ListQueuedOwners bus (codes "ListQueuedOwners") (codes "s") (codes "as")
-    ∷ row_of GetId bus (codes "GetId") [] (codes "s")
-    ∷ row_of GetConnectionUnixUser bus (codes "GetConnectionUnixUser") (codes "s") (codes "u")
-    ∷ row_of GetConnectionUnixProcessId bus (codes "GetConnectionUnixProcessID") (codes "s") (codes "u")
-    ∷ row_of GetConnectionCredentials bus (codes "GetConnectionCredentials") (codes "s") (codes "a{sv}")
-    ∷ row_of GetAdtAuditSessionData bus (codes "GetAdtAuditSessionData") (codes "s") (codes "ay")
-    ∷ row_of GetConnectionSelinuxSecurityContext bus (codes "GetConnectionSELinuxSecurityContext") (codes "s") (codes "ay")
-    ∷ row_of GetMachineId peer (codes "GetMachineId") [] (codes "s")
-    ∷ row_of Introspect introspectable (codes "Introspect") [] (codes "s")
-    ∷ row_of Get properties (codes "Get") (codes "ss") (codes "v")
-    ∷ row_of GetAll properties (codes "GetAll") (codes "s") (codes "a{sv}")
-    ∷ row_of Set properties (codes "Set") (codes "ssv") []
-    ∷ row_of UpdateActivationEnvironment bus (codes "UpdateActivationEnvironment") (codes "a{ss}") []
-    ∷ row_of ReloadConfig bus (codes "ReloadConfig") [] []
-    ∷ row_of BecomeMonitor monitoring (codes "BecomeMonitor") (codes "asu") []
-    ∷ row_of GetStats stats (codes "GetStats") [] (codes "a{sv}")
-    ∷ row_of GetConnectionStats stats (codes "GetConnectionStats") (codes "s") (codes "a{sv}")
-    ∷ row_of GetAllMatchRules stats (codes "GetAllMatchRules") [] (codes "a{sas}")
+    row_of names.Hello bus (codes "Hello") [] (codes "s")
+    ∷ row_of names.AddMatch bus (codes "AddMatch") (codes "s") []
+    ∷ row_of names.RemoveMatch bus (codes "RemoveMatch") (codes "s") []
+    ∷ row_of names.RequestName bus (codes "RequestName") (codes "su") (codes "u")
+    ∷ row_of names.ReleaseName bus (codes "ReleaseName") (codes "s") (codes "u")
+    ∷ row_of names.GetNameOwner bus (codes "GetNameOwner") (codes "s") (codes "s")
+    ∷ row_of names.NameHasOwner bus (codes "NameHasOwner") (codes "s") (codes "b")
+    ∷ row_of names.ListNames bus (codes "ListNames") [] (codes "as")
+    ∷ row_of names.Ping peer (codes "Ping") [] []
+    ∷ row_of names.Attach programs (codes "Attach") (codes "a(qyyu)") (codes "u")
+    ∷ row_of names.AttachEdition programs (codes "AttachEdition") (codes "ua(qyyu)") (codes "u")
+    ∷ row_of names.AttachFilter programs (codes "AttachFilter") (codes "s") (codes "u")
+    ∷ row_of names.Detach programs (codes "Detach") (codes "u") []
+    ∷ row_of names.StartServiceByName bus (codes "StartServiceByName") (codes "su") (codes "u")
+    ∷ row_of names.ListActivatableNames bus (codes "ListActivatableNames") [] (codes "as")
+    ∷ row_of names.ListQueuedOwners bus (codes "ListQueuedOwners") (codes "s") (codes "as")
+    ∷ row_of names.GetId bus (codes "GetId") [] (codes "s")
+    ∷ row_of names.GetConnectionUnixUser bus (codes "GetConnectionUnixUser") (codes "s") (codes "u")
+    ∷ row_of names.GetConnectionUnixProcessId bus (codes "GetConnectionUnixProcessID") (codes "s") (codes "u")
+    ∷ row_of names.GetConnectionCredentials bus (codes "GetConnectionCredentials") (codes "s") (codes "a{sv}")
+    ∷ row_of names.GetAdtAuditSessionData bus (codes "GetAdtAuditSessionData") (codes "s") (codes "ay")
+    ∷ row_of names.GetConnectionSelinuxSecurityContext bus (codes "GetConnectionSELinuxSecurityContext") (codes "s") (codes "ay")
+    ∷ row_of names.GetMachineId peer (codes "GetMachineId") [] (codes "s")
+    ∷ row_of names.Introspect introspectable (codes "Introspect") [] (codes "s")
+    ∷ row_of names.Get properties (codes "Get") (codes "ss") (codes "v")
+    ∷ row_of names.GetAll properties (codes "GetAll") (codes "s") (codes "a{sv}")
+    ∷ row_of names.Set properties (codes "Set") (codes "ssv") []
+    ∷ row_of names.UpdateActivationEnvironment bus (codes "UpdateActivationEnvironment") (codes "a{ss}") []
+    ∷ row_of names.ReloadConfig bus (codes "ReloadConfig") [] []
+    ∷ row_of names.BecomeMonitor monitoring (codes "BecomeMonitor") (codes "asu") []
+    ∷ row_of names.GetStats stats (codes "GetStats") [] (codes "a{sv}")
+    ∷ row_of names.GetConnectionStats stats (codes "GetConnectionStats") (codes "s") (codes "a{sv}")
+    ∷ row_of names.GetAllMatchRules stats (codes "GetAllMatchRules") [] (codes "a{sas}")
     ∷ []
 
--- the path at which the bus's own properties are, and what looks into it
-abbrev pub is_bus_path : Option (List ℕ) → Bool
-is_bus_path (Some path) = bytes_eq path (codes "/org/freedesktop/DBus")
-is_bus_path None = false
-
--- the interfaces that the bus has at its own path alone
-abbrev pub is_at_bus_path : List ℕ → Bool
-is_at_bus_path interface = bytes_eq interface properties || (bytes_eq interface monitoring || bytes_eq interface stats)
+-- what a call of each method is read as, whose body has the method's signature
+abbrev pub Understands : Method → Given → Result Call CallError → Type 0
+Understands names.Hello = ReadsNothing calls.Hello
+Understands names.AddMatch = ReadsText calls.AddMatch
+Understands names.RemoveMatch = ReadsText calls.RemoveMatch
+Understands names.RequestName = ReadsRequest
+Understands names.ReleaseName = ReadsText calls.ReleaseName
+Understands names.GetNameOwner = ReadsText calls.GetNameOwner
+Understands names.NameHasOwner = ReadsText calls.NameHasOwner
+Understands names.ListNames = ReadsNothing calls.ListNames
+Understands names.Ping = ReadsNothing calls.Ping
+Understands names.Attach = ReadsProgram
+Understands names.AttachEdition = ReadsEdition
+Understands names.AttachFilter = ReadsText calls.AttachFilter
+Understands names.Detach = ReadsId
+Understands names.StartServiceByName = ReadsText calls.StartServiceByName
+Understands names.ListActivatableNames = ReadsNothing calls.ListActivatableNames
+Understands names.ListQueuedOwners = ReadsText calls.ListQueuedOwners
+Understands names.GetId = ReadsNothing calls.GetId
+Understands names.GetConnectionUnixUser = ReadsText calls.GetConnectionUnixUser
+Understands names.GetConnectionUnixProcessId = ReadsText calls.GetConnectionUnixProcessId
+Understands names.GetConnectionCredentials = ReadsText calls.GetConnectionCredentials
+Understands names.GetAdtAuditSessionData = ReadsText calls.GetAdtAuditSessionData
+Understands names.GetConnectionSelinuxSecurityContext = ReadsText calls.GetConnectionSelinuxSecurityContext
+Understands names.GetMachineId = ReadsNothing calls.GetMachineId
+Understands names.Introspect = ReadsNothing calls.Introspect
+Understands names.Get = ReadsProperty
+Understands names.GetAll = ReadsInterface
+Understands names.Set = RefusesToSet
+Understands names.UpdateActivationEnvironment = ReadsNothing calls.UpdateActivationEnvironment
+Understands names.ReloadConfig = ReadsNothing calls.ReloadConfig
+Understands names.BecomeMonitor = ReadsRules
+Understands names.GetStats = ReadsNothing calls.GetStats
+Understands names.GetConnectionStats = ReadsText calls.GetConnectionStats
+Understands names.GetAllMatchRules = ReadsNothing calls.GetAllMatchRules
 
 -- a call that names no interface may be of any
 abbrev pub is_of : Option (List ℕ) → List ℕ → Bool

@@ -5,7 +5,7 @@ use Rattle.signature.specs.DataType.{basic, array}
 use Rattle.message_value.specs.Value.{Value, Values, text, elements, entries, of_type, one_value, no_values, no_entries, one_entry}
 use Rattle.bus_messages.specs.declared.property.Property.{Property}
 use Rattle.bus_messages.specs.declared.property.Property.TheVariants.{Features, Interfaces}
-use Rattle.bus_messages.specs.Methods.{bus, programs, monitoring, stats}
+use Rattle.bus_messages.specs.Interfaces.{bus, programs, monitoring, stats}
 
 -- the interfaces that have properties; an empty name stands for all
 abbrev pub has_properties : List ℕ → Bool

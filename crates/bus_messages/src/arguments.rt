@@ -33,6 +33,7 @@ pub(crate) struct Arguments<'a> {
     message: &'a [u8],
     order: Order,
     left: Args<'a>,
+    alloc: Global,
 }
 
 impl<'a> Model for Arguments<'a> {
@@ -137,13 +138,14 @@ fn texts<'a>(alloc: Global, order: Order, bytes: &'a [u8]) -> Result<Vec<&'a str
 }
 
 impl<'a> Arguments<'a> {
-    pub(crate) fn of(view: &View<'a>) -> Arguments<'a>
+    pub(crate) fn of(alloc: Global, view: &View<'a>) -> Arguments<'a>
         ensures { (m : Message) → Valid view.now m → result ≡ given_by m }
     {
         Arguments {
             message: view.raw(),
             order: view.order(),
             left: view.args(),
+            alloc,
         }
     }
 
@@ -180,7 +182,7 @@ impl<'a> Arguments<'a> {
         }
     }
 
-    pub(crate) fn texts(&mut self, alloc: Global) -> Result<Vec<&'a str>, CallError>
+    pub(crate) fn texts(&mut self) -> Result<Vec<&'a str>, CallError>
         ensures read { MatchResult result
             (λ texts. first_texts self.old ≡ Some (map (λ text. text.now) texts.items))
             (λ error. ((error ≡ InvalidArgs) × (first_texts self.old ≡ None)) ⊎ (error ≡ NoMemory)) }
@@ -188,15 +190,15 @@ impl<'a> Arguments<'a> {
     {
         let array = self.left.next().ok_or(CallError::InvalidArgs)?;
         let bytes = text_elements(self.message, &array).ok_or(CallError::InvalidArgs)?;
-        texts(alloc, self.order, bytes)
+        texts(self.alloc, self.order, bytes)
     }
 
-    pub(crate) fn program(&mut self, alloc: Global) -> Result<Vec<Ins>, CallError>
+    pub(crate) fn program(&mut self) -> Result<Vec<Ins>, CallError>
         ensures { MatchResult result (λ program. first_program self.old ≡ Some program.items) (λ error. ((error ≡ InvalidArgs) × (first_program self.old ≡ None)) ⊎ (error ≡ NoMemory)) }
     {
         let array = self.left.next().ok_or(CallError::InvalidArgs)?;
         let bytes = elements(self.message, &array).ok_or(CallError::InvalidArgs)?;
-        let program = instructions(alloc, self.order, bytes)?;
+        let program = instructions(self.alloc, self.order, bytes)?;
         Ok(program)
     }
 }

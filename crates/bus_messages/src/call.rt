@@ -1,24 +1,58 @@
-// The calls that the bus answers itself.
+// The methods of the bus, and the calls that it answers itself.
 
-ghost use Rattle.std.specs.Prelude.{◌≡◌, MatchResult, false, option_map, true};
-ghost use Rattle.message_view.specs.Message.{Message};
-ghost use Rattle.message_view.specs.Valid.{Valid};
-ghost use Rattle.bus_messages.specs.declared.call.CallError.TheVariants.{UnknownInterface};
-ghost use Rattle.bus_messages.specs.Calls.{IsReadAs, Understands, is_named, refusal_at, refusal_elsewhere, row_called, unknown_call};
-ghost use Rattle.bus_messages.specs.CallAnswers.{properties_of};
-ghost use Rattle.bus_messages.specs.Introspection.{is_interface};
+ghost use Rattle.std.specs.Prelude.{◌≡◌, map};
 ghost use Rattle.bus_messages.specs.CallErrors.{error_name_of};
+ghost use Rattle.bus_messages.specs.Methods.{Understands, methods};
+ghost use Rattle.bus_messages.specs.Readings.{ReadsEdition, ReadsProgram};
 ghost use Rattle.bus_messages.specs.Rows.{method_row_of};
 
 use crate::arguments::Arguments;
 use crate::error_name::ErrorName;
-use crate::method::{Method, MethodEntry, is_at_bus_path, is_bus_path, is_interface};
-use crate::property::{Property, has_properties, property_of};
+use crate::interface::{BUS, INTROSPECTABLE, MONITORING, PEER, PROGRAMS, PROPERTIES, STATS};
+use crate::property::{Property, all_properties, no_setting};
 use bpf_code::Ins;
-use message_view::{MsgError, View};
-use std::alloc::{AllocError, Global};
+use message_view::MsgError;
+use std::alloc::AllocError;
 use std::fmt;
 use summary::Edition;
+
+/// A method of the bus.
+#[derive(Clone, Copy, Debug, PartialEq, Eq)]
+pub(crate) enum Method {
+    Hello,
+    AddMatch,
+    RemoveMatch,
+    RequestName,
+    ReleaseName,
+    GetNameOwner,
+    NameHasOwner,
+    ListNames,
+    Ping,
+    Attach,
+    AttachEdition,
+    AttachFilter,
+    Detach,
+    StartServiceByName,
+    ListActivatableNames,
+    ListQueuedOwners,
+    GetId,
+    GetConnectionUnixUser,
+    GetConnectionUnixProcessId,
+    GetConnectionCredentials,
+    GetAdtAuditSessionData,
+    GetConnectionSelinuxSecurityContext,
+    GetMachineId,
+    Introspect,
+    Get,
+    GetAll,
+    Set,
+    UpdateActivationEnvironment,
+    ReloadConfig,
+    BecomeMonitor,
+    GetStats,
+    GetConnectionStats,
+    GetAllMatchRules,
+}
 
 /// A call of one of the bus's methods, with its arguments.
 #[derive(Drop)]
@@ -65,6 +99,123 @@ pub enum Call<'a> {
     GetStats,
     GetConnectionStats(&'a str),
     GetAllMatchRules,
+}
+
+/// What a method is called, and the signatures of its arguments and of its answer.
+#[derive(Clone, Copy)]
+pub(crate) struct MethodEntry {
+    pub(crate) method: Method,
+    pub(crate) interface: &'static str,
+    pub(crate) member: &'static str,
+    pub(crate) takes: &'static str,
+    pub(crate) gives: &'static str,
+}
+
+/// Each method: its interface, its member, the signatures of its arguments and of its answer, and how the arguments are read.
+/// A call that names no interface is of the first row with its member.
+macro_rules! methods {
+    ($rows:ident $($with:tt)*) => {
+        $rows! {
+            ($($with)*)
+            Hello BUS "Hello" ("") -> "s";
+            AddMatch BUS "AddMatch" ("s") -> "" reads text;
+            RemoveMatch BUS "RemoveMatch" ("s") -> "" reads text;
+            RequestName BUS "RequestName" ("su") -> "u" reads text, number;
+            ReleaseName BUS "ReleaseName" ("s") -> "u" reads text;
+            GetNameOwner BUS "GetNameOwner" ("s") -> "s" reads text;
+            NameHasOwner BUS "NameHasOwner" ("s") -> "b" reads text;
+            ListNames BUS "ListNames" ("") -> "as";
+            Ping PEER "Ping" ("") -> "";
+            Attach PROGRAMS "Attach" ("a(qyyu)") -> "u" by program;
+            AttachEdition PROGRAMS "AttachEdition" ("ua(qyyu)") -> "u" by edition;
+            AttachFilter PROGRAMS "AttachFilter" ("s") -> "u" reads text;
+            Detach PROGRAMS "Detach" ("u") -> "" reads number;
+            StartServiceByName BUS "StartServiceByName" ("su") -> "u" reads text;
+            ListActivatableNames BUS "ListActivatableNames" ("") -> "as";
+            ListQueuedOwners BUS "ListQueuedOwners" ("s") -> "as" reads text;
+            GetId BUS "GetId" ("") -> "s";
+            GetConnectionUnixUser BUS "GetConnectionUnixUser" ("s") -> "u" reads text;
+            GetConnectionUnixProcessId BUS "GetConnectionUnixProcessID" ("s") -> "u" reads text;
+            GetConnectionCredentials BUS "GetConnectionCredentials" ("s") -> "a{sv}" reads text;
+            GetAdtAuditSessionData BUS "GetAdtAuditSessionData" ("s") -> "ay" reads text;
+            GetConnectionSelinuxSecurityContext BUS "GetConnectionSELinuxSecurityContext" ("s") -> "ay" reads text;
+            GetMachineId PEER "GetMachineId" ("") -> "s";
+            Introspect INTROSPECTABLE "Introspect" ("") -> "s";
+            Get PROPERTIES "Get" ("ss") -> "v" reads property;
+            GetAll PROPERTIES "GetAll" ("s") -> "a{sv}" by all_properties;
+            Set PROPERTIES "Set" ("ssv") -> "" by no_setting;
+            UpdateActivationEnvironment BUS "UpdateActivationEnvironment" ("a{ss}") -> "";
+            ReloadConfig BUS "ReloadConfig" ("") -> "";
+            BecomeMonitor MONITORING "BecomeMonitor" ("asu") -> "" reads texts, number;
+            GetStats STATS "GetStats" ("") -> "a{sv}";
+            GetConnectionStats STATS "GetConnectionStats" ("s") -> "a{sv}" reads text;
+            GetAllMatchRules STATS "GetAllMatchRules" ("") -> "a{sas}";
+        }
+    };
+}
+
+macro_rules! entries {
+    (() $($method:ident $interface:ident $member:literal ($takes:literal) -> $gives:literal $(reads $($read:ident),+)? $(by $reader:ident)?;)*) => {
+        [$(MethodEntry {
+            method: Method::$method,
+            interface: $interface,
+            member: $member,
+            takes: $takes,
+            gives: $gives,
+        }),*]
+    };
+}
+
+macro_rules! call {
+    ($arguments:ident $method:ident by $reader:ident) => {
+        $reader($arguments)
+    };
+    ($arguments:ident $method:ident $($read:ident),+) => {
+        Ok(Call::$method($($arguments.$read()?),+))
+    };
+    ($arguments:ident $method:ident) => {
+        Ok(Call::$method)
+    };
+}
+
+macro_rules! calls {
+    (($of:expr, $arguments:ident) $($method:ident $interface:ident $member:literal ($takes:literal) -> $gives:literal $(reads $($read:ident),+)? $(by $reader:ident)?;)*) => {
+        match $of {
+            $(Method::$method => call!($arguments $method $($($read),+)? $(by $reader)?),)*
+        }
+    };
+}
+
+static ENTRIES: [MethodEntry; 33] = methods!(entries);
+
+/// Every method of the bus.
+pub(crate) fn rows() -> &'static [MethodEntry]
+    ensures { map method_row_of result.now ≡ methods }
+{
+    &ENTRIES
+}
+
+impl Method {
+    /// What a call of the method is read as.
+    pub(crate) fn read<'a>(self, arguments: &mut Arguments<'a>) -> Result<Call<'a>, CallError>
+        ensures { Understands self arguments.old result }
+    {
+        methods!(calls self, arguments)
+    }
+}
+
+// A program that reads images of edition 1.
+fn program<'a>(arguments: &mut Arguments<'_>) -> Result<Call<'a>, CallError>
+    ensures { ReadsProgram arguments.old result }
+{
+    Ok(Call::Attach(Edition::One, arguments.program()?))
+}
+
+// An edition, and a program.
+fn edition<'a>(arguments: &mut Arguments<'_>) -> Result<Call<'a>, CallError>
+    ensures { ReadsEdition arguments.old result }
+{
+    Ok(Call::Attach(arguments.edition()?, arguments.program()?))
 }
 
 /// Why a message is no call that the bus answers.
@@ -139,167 +290,5 @@ impl From<AllocError> for CallError {
 
     fn from(_refused: AllocError) -> CallError {
         CallError::NoMemory
-    }
-}
-
-/// The name of an interface that the bus has, or of none, which stands for all (D-Bus Specification,
-/// "org.freedesktop.DBus.Properties").
-fn known_interface<'a>(name: &'a str) -> Result<&'a str, CallError>
-    ensures { MatchResult result
-        (λ known. (known.now ≡ name.entry.now) × (is_named name.entry.now ≡ true))
-        (λ error. (error ≡ UnknownInterface) × (is_named name.entry.now ≡ false)) }
-{
-    if name == "" || is_interface(name) {
-        Ok(name)
-    } else {
-        Err(CallError::UnknownInterface)
-    }
-}
-
-/// All properties of an interface, or of all.
-fn properties<'a>(interface: &str) -> Result<Call<'a>, CallError>
-    ensures { result ≡ properties_of interface.now }
-{
-    if has_properties(interface) {
-        Ok(Call::GetAll)
-    } else if is_interface(interface) {
-        Ok(Call::GetAllOfNone)
-    } else {
-        Err(CallError::UnknownInterface)
-    }
-}
-
-/// Why a call of no method isn't understood.
-fn unknown_call(interface: Option<&str>) -> CallError
-    ensures { result ≡ unknown_call (option_map (λ name. name.now) interface.entry) }
-{
-    match interface {
-        Some(name) if !is_interface(name) => CallError::UnknownInterface,
-        _ => CallError::UnknownMethod,
-    }
-}
-
-/// Why a method may not be called at another path than the bus's own, if it may not. The call names an interface or none.
-fn refusal_elsewhere(row: &MethodEntry, named: Option<&str>) -> Option<CallError>
-    ensures { result ≡ refusal_elsewhere (method_row_of row.now) (option_map (λ name. name.now) named.entry) }
-{
-    if matches!(row.method, Method::UpdateActivationEnvironment) {
-        return Some(CallError::AccessDenied);
-    }
-    if !is_at_bus_path(row.interface) {
-        return None;
-    }
-    match named {
-        Some(_) => Some(CallError::UnknownInterface),
-        None => Some(CallError::UnknownMethod),
-    }
-}
-
-/// Why a method may not be called at this path, if it may not.
-fn refusal_at(path: Option<&str>, row: &MethodEntry, named: Option<&str>) -> Option<CallError>
-    ensures { result ≡ refusal_at (option_map (λ name. name.now) path.entry) (method_row_of row.now) (option_map (λ name. name.now) named.entry) }
-{
-    if is_bus_path(path) {
-        None
-    } else {
-        refusal_elsewhere(row, named)
-    }
-}
-
-/// The row of the method that a message calls.
-fn row_called(interface: Option<&str>, member: Option<&str>) -> Option<&'static MethodEntry>
-    ensures { option_map (λ row. method_row_of row.now) result ≡ row_called (option_map (λ name. name.now) interface.entry) (option_map (λ name. name.now) member.entry) }
-{
-    MethodEntry::of(interface, member?)
-}
-
-impl<'a> Call<'a> {
-    /// The call of a method with these arguments.
-    #[tactic(auto, using(crate::proofs::PropertyCalls::properties_read))]
-    fn of(
-        alloc: Global,
-        method: Method,
-        arguments: &mut Arguments<'a>,
-    ) -> Result<Call<'a>, CallError>
-        ensures { Understands method arguments.old result }
-    {
-        match method {
-            Method::Hello => Ok(Call::Hello),
-            Method::AddMatch => Ok(Call::AddMatch(arguments.text()?)),
-            Method::RemoveMatch => Ok(Call::RemoveMatch(arguments.text()?)),
-            Method::RequestName => Ok(Call::RequestName(arguments.text()?, arguments.number()?)),
-            Method::ReleaseName => Ok(Call::ReleaseName(arguments.text()?)),
-            Method::GetNameOwner => Ok(Call::GetNameOwner(arguments.text()?)),
-            Method::NameHasOwner => Ok(Call::NameHasOwner(arguments.text()?)),
-            Method::ListNames => Ok(Call::ListNames),
-            Method::Ping => Ok(Call::Ping),
-            Method::Attach => Ok(Call::Attach(Edition::One, arguments.program(alloc)?)),
-            Method::AttachEdition => Ok(Call::Attach(
-                arguments.edition()?,
-                arguments.program(alloc)?,
-            )),
-            Method::AttachFilter => Ok(Call::AttachFilter(arguments.text()?)),
-            Method::Detach => Ok(Call::Detach(arguments.number()?)),
-            Method::StartServiceByName => Ok(Call::StartServiceByName(arguments.text()?)),
-            Method::ListActivatableNames => Ok(Call::ListActivatableNames),
-            Method::ListQueuedOwners => Ok(Call::ListQueuedOwners(arguments.text()?)),
-            Method::GetId => Ok(Call::GetId),
-            Method::GetConnectionUnixUser => Ok(Call::GetConnectionUnixUser(arguments.text()?)),
-            Method::GetConnectionUnixProcessId => {
-                Ok(Call::GetConnectionUnixProcessId(arguments.text()?))
-            }
-            Method::GetConnectionCredentials => {
-                Ok(Call::GetConnectionCredentials(arguments.text()?))
-            }
-            Method::GetAdtAuditSessionData => Ok(Call::GetAdtAuditSessionData(arguments.text()?)),
-            Method::GetConnectionSelinuxSecurityContext => {
-                Ok(Call::GetConnectionSelinuxSecurityContext(arguments.text()?))
-            }
-            Method::GetMachineId => Ok(Call::GetMachineId),
-            Method::Introspect => Ok(Call::Introspect),
-            Method::Get => {
-                let interface = known_interface(arguments.text()?)?;
-                Ok(Call::Get(property_of(interface, arguments.text()?)?))
-            }
-            Method::GetAll => properties(arguments.text()?),
-            Method::Set => {
-                let interface = known_interface(arguments.text()?)?;
-                let _property = property_of(interface, arguments.text()?)?;
-                Err(CallError::PropertyReadOnly)
-            }
-            Method::UpdateActivationEnvironment => Ok(Call::UpdateActivationEnvironment),
-            Method::ReloadConfig => Ok(Call::ReloadConfig),
-            Method::BecomeMonitor => Ok(Call::BecomeMonitor(
-                arguments.texts(alloc)?,
-                arguments.number()?,
-            )),
-            Method::GetStats => Ok(Call::GetStats),
-            Method::GetConnectionStats => Ok(Call::GetConnectionStats(arguments.text()?)),
-            Method::GetAllMatchRules => Ok(Call::GetAllMatchRules),
-        }
-    }
-
-    /// Reads a message as a call of the bus, whatever its destination is, and of some interfaces whatever its path is.
-    ///
-    /// # Errors
-    ///
-    /// `UnknownInterface` and `UnknownMethod` if the bus has no method of the interface and the member, or has it at its own
-    /// path alone and the message has another one: `UnknownMethod` if the message names no interface. `AccessDenied` if
-    /// UpdateActivationEnvironment is called at another path. `InvalidArgs` if the body has another signature than the method
-    /// takes, `BadEdition` if a summary's edition isn't 1 or 2, `UnknownInterface`, `UnknownProperty` and `PropertyReadOnly`
-    /// of properties, and `NoMemory`.
-    pub fn read(alloc: Global, view: &View<'a>) -> Result<Call<'a>, CallError>
-        ensures { (m : Message) → Valid view.now m → IsReadAs m result }
-    {
-        let Some(row) = row_called(view.interface(), view.member()) else {
-            return Err(unknown_call(view.interface()));
-        };
-        if let Some(error) = refusal_at(view.path(), row, view.interface()) {
-            return Err(error);
-        }
-        if view.signature() != row.takes.as_bytes() {
-            return Err(CallError::InvalidArgs);
-        }
-        Call::of(alloc, row.method, &mut Arguments::of(view))
     }
 }

@@ -5,7 +5,8 @@ ghost use Rattle.std.specs.List.{flat_map};
 ghost use Rattle.bus_messages.specs.Introspection.{argument_text, arguments_text, method_text, methods_text, signals_text, interface_text, introspection_text};
 ghost use Rattle.bus_messages.specs.Rows.{method_row_of};
 
-use crate::method::{BUS, INTERFACES, MethodEntry, rows};
+use crate::call::{MethodEntry, rows};
+use crate::interface::{BUS, INTERFACES};
 use signature::{OneType, Signature};
 use std::alloc::{AllocError, Global};
 use std::str;

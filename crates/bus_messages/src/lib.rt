@@ -9,10 +9,11 @@ mod call;
 mod error_name;
 mod exceeded;
 mod filter_fault;
+mod interface;
 mod introspect;
 mod laws;
-mod method;
 mod property;
+mod reading;
 mod sent;
 
 pub use body::Body;

@@ -4,67 +4,37 @@ use Rattle.server.specs.declared.limit.Limit.{Limit}
 use Rattle.server.specs.declared.limit.Limit.TheVariants.{Rules, AllRules, Instructions, AllInstructions, Names, AllNames, Claims, Calls, Messages, Bytes, Unfinished, Silence, Clients, Newcomers, Hello}
 use Rattle.server.specs.declared.limits.Limits.{Limits}
 
--- the name of each limit, as words have it
-abbrev pub name_of : Limit → List ℕ
-name_of Rules = codes "rules"
-name_of AllRules = codes "all-rules"
-name_of Instructions = codes "instructions"
-name_of AllInstructions = codes "all-instructions"
-name_of Names = codes "names"
-name_of AllNames = codes "all-names"
-name_of Claims = codes "claims"
-name_of Calls = codes "calls"
-name_of Messages = codes "messages"
-name_of Bytes = codes "bytes"
-name_of Unfinished = codes "unfinished"
-name_of Silence = codes "silence"
-name_of Clients = codes "clients"
-name_of Newcomers = codes "newcomers"
-name_of Hello = codes "hello"
+-- the name of a limit, as words have it; its number where no other is asked for; the highest one that may be asked for; and what
+-- the number counts
+pub record LimitRow : Type 0 where
+  pub name : List ℕ
+  pub standard : ℕ
+  pub most : ℕ
+  pub unit : List ℕ
 
--- what the number of each counts
-abbrev pub unit_of : Limit → List ℕ
-unit_of Rules = codes "rules and programs"
-unit_of AllRules = codes "rules and programs"
-unit_of Instructions = codes "instructions"
-unit_of AllInstructions = codes "instructions"
-unit_of Names = codes "names"
-unit_of AllNames = codes "names"
-unit_of Claims = codes "claims"
-unit_of Calls = codes "calls"
-unit_of Messages = codes "messages"
-unit_of Bytes = codes "bytes"
-unit_of Unfinished = codes "bytes"
-unit_of Silence = codes "seconds"
-unit_of Clients = codes "clients"
-unit_of Newcomers = codes "connections"
-unit_of Hello = codes "seconds"
+abbrev pub row : List ℕ → ℕ → ℕ → List ℕ → LimitRow
+row name standard most unit = record { name = name; standard = standard; most = most; unit = unit }
 
--- the number of each limit where no other is asked for; of rules, names, calls, newcomers and hello it is dbus-daemon's own
-abbrev pub standard_of : Limit → ℕ
-standard_of Rules = 512
-standard_of AllRules = 16384
-standard_of Instructions = 65536
-standard_of AllInstructions = 4096000
-standard_of Names = 512
-standard_of AllNames = 1024
-standard_of Claims = 4096
-standard_of Calls = 50000
-standard_of Messages = 100000
-standard_of Bytes = 67108864
-standard_of Unfinished = 33554432
-standard_of Silence = 30
-standard_of Clients = 256
-standard_of Newcomers = 64
-standard_of Hello = 30
+abbrev pub highest : ℕ
+highest = 4294967295
 
--- the highest number that may be asked for
-abbrev pub most_of : Limit → ℕ
-most_of AllRules = 65534
-most_of AllNames = 1024
-most_of Claims = 4096
-most_of Clients = 4096
-most_of _ = 4294967295
+-- the table of limits; the standard numbers of rules, names, calls, newcomers and hello are dbus-daemon's own
+abbrev pub row_of : Limit → LimitRow
+row_of Rules = row (codes "rules") 512 highest (codes "rules and programs")
+row_of AllRules = row (codes "all-rules") 16384 65534 (codes "rules and programs")
+row_of Instructions = row (codes "instructions") 65536 highest (codes "instructions")
+row_of AllInstructions = row (codes "all-instructions") 4096000 highest (codes "instructions")
+row_of Names = row (codes "names") 512 highest (codes "names")
+row_of AllNames = row (codes "all-names") 1024 1024 (codes "names")
+row_of Claims = row (codes "claims") 4096 4096 (codes "claims")
+row_of Calls = row (codes "calls") 50000 highest (codes "calls")
+row_of Messages = row (codes "messages") 100000 highest (codes "messages")
+row_of Bytes = row (codes "bytes") 67108864 highest (codes "bytes")
+row_of Unfinished = row (codes "unfinished") 33554432 highest (codes "bytes")
+row_of Silence = row (codes "silence") 30 highest (codes "seconds")
+row_of Clients = row (codes "clients") 256 4096 (codes "clients")
+row_of Newcomers = row (codes "newcomers") 64 highest (codes "connections")
+row_of Hello = row (codes "hello") 30 highest (codes "seconds")
 
 -- the number of each limit among these
 abbrev pub number_of : Limits → Limit → ℕ

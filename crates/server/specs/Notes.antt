@@ -2,7 +2,7 @@
 use Rattle.std.specs.Prelude.{ℕ, ◌++◌, List, codes, decimal, Option, Some, None}
 use Rattle.sessions.specs.Errors.{text_of as session_error_text}
 use Rattle.sessions.specs.Openings.{opening_text}
-use Rattle.server.specs.Limits.{name_of as limit_name}
+use Rattle.server.specs.Limits.{row_of}
 use Rattle.server.specs.declared.note.Cause.{Cause}
 use Rattle.server.specs.declared.note.Cause.TheVariants.{Session, Opening, Limit, BusEnds}
 use Rattle.server.specs.declared.note.Note.{Note}
@@ -11,7 +11,7 @@ use Rattle.server.specs.declared.note.Note.TheVariants.{Came, Went, Ended, NoDes
 abbrev pub cause_text : Cause → List ℕ
 cause_text (Session error) = session_error_text error
 cause_text (Opening opening) = codes "NoHello (" ++ opening_text opening ++ codes ")"
-cause_text (Limit limit) = limit_name limit
+cause_text (Limit limit) = (row_of limit).name
 cause_text BusEnds = codes "the bus ends"
 
 -- a client by its unique name, where it has one

@@ -3,7 +3,7 @@
 use crate::endpoint::Endpoint;
 use crate::note::Note;
 use crate::notes::Notes;
-use crate::reserve::Reserve;
+use crate::spare_descriptor::SpareDescriptor;
 use endpoints::{Link, is_of_descriptors};
 use mio::unix::SourceFd;
 use mio::{Interest, Poll, Token};
@@ -30,7 +30,7 @@ pub(crate) struct Acceptor<'a> {
     backlogs: Vec<Backlog<'a>>,
     // Whose turn it is.
     turn: usize,
-    reserve: Reserve,
+    spare: SpareDescriptor,
     // How many connections are still accepted, if there is an end.
     left: Option<u64>,
     // One that was accepted, until there is a place for it.
@@ -62,7 +62,7 @@ impl<'a> Acceptor<'a> {
         Ok(Acceptor {
             backlogs,
             turn: 0,
-            reserve: Reserve::new(rt),
+            spare: SpareDescriptor::new(rt),
             left: count,
             next: None,
         })
@@ -140,7 +140,7 @@ impl<'a> Acceptor<'a> {
         if !backlog.has_clients {
             return None;
         }
-        let link = backlog.accept(rt, notes, &mut self.reserve)?;
+        let link = backlog.accept(rt, notes, &mut self.spare)?;
         Some((link, backlog.endpoint))
     }
 }
@@ -151,14 +151,14 @@ impl<'a> Backlog<'a> {
         &mut self,
         rt: &W,
         notes: &Notes,
-        reserve: &mut Reserve,
+        spare: &mut SpareDescriptor,
     ) -> Option<Link> {
         match self.endpoint.listener.accept() {
             Ok(link) => {
-                reserve.note(false);
+                spare.note(false);
                 Some(link)
             }
-            Err(error) if is_of_descriptors(&error) => self.accept_by_reserve(rt, notes, reserve),
+            Err(error) if is_of_descriptors(&error) => self.accept_by_spare(rt, notes, spare),
             Err(error) => {
                 self.note_failure(&error);
                 None
@@ -166,16 +166,16 @@ impl<'a> Backlog<'a> {
         }
     }
 
-    fn accept_by_reserve<W: Files<File = File> + Wait>(
+    fn accept_by_spare<W: Files<File = File> + Wait>(
         &mut self,
         rt: &W,
         notes: &Notes,
-        reserve: &mut Reserve,
+        spare: &mut SpareDescriptor,
     ) -> Option<Link> {
-        match reserve.accept(rt, &self.endpoint.listener) {
+        match spare.accept(rt, &self.endpoint.listener) {
             Ok(Some(link)) => Some(link),
             Ok(None) => {
-                if reserve.note(true) {
+                if spare.note(true) {
                     notes.leave(rt, Note::NoDescriptor);
                 }
                 None

@@ -47,9 +47,9 @@ pub(crate) enum Turn {
 /// A connection. One worker owns it.
 #[derive(Drop)]
 pub(crate) struct Connection<B: BusBrand> {
-    session: Session<B, SocketMailbox>,
-    mailbox: SocketMailbox,
-    link: Arc<Link>,
+    pub(crate) session: Session<B, SocketMailbox>,
+    pub(crate) mailbox: SocketMailbox,
+    pub(crate) link: Arc<Link>,
     begun: Instant,
     // What it has sent of a message, or a line, that isn't whole.
     beginning: Option<Beginning>,
@@ -117,16 +117,6 @@ impl<B: BusBrand> Connection<B> {
         }
     }
 
-    /// Gives up the reader.
-    pub(crate) fn reclaim(&mut self) -> Option<StateReader<B, SocketMailbox>> {
-        self.session.reclaim()
-    }
-
-    /// Shuts its socket, before its end.
-    pub(crate) fn shut(&self) {
-        self.link.shut();
-    }
-
     /// Whether it may become overdue: it is without Hello, or in the middle of a message.
     pub(crate) fn is_watched(&self) -> bool {
         !self.is_in || self.beginning.is_some()
@@ -152,11 +142,6 @@ impl<B: BusBrand> Connection<B> {
             .is_some_and(|beginning| beginning.is_silent(now, silence))
     }
 
-    /// The number of its unique name, once its Hello was answered.
-    pub(crate) fn number(&self) -> Option<u64> {
-        self.session.number()
-    }
-
     /// A cause of its end, with the message that came in the place of Hello.
     pub(crate) fn told(&self, cause: Cause) -> Cause {
         match (cause, self.session.opening()) {
@@ -168,7 +153,7 @@ impl<B: BusBrand> Connection<B> {
     /// Counts its client among those that are in, once its Hello is answered: before the answer is written, so that
     /// whoever asks about it finds it. Where memory is refused, nobody waits for its end.
     fn accept_word<W: Wait, R: Wait + Drop>(&mut self, rt: &W, server: &Server<B, R>) {
-        let Some(number) = self.number() else {
+        let Some(number) = self.session.number() else {
             return;
         };
         self.is_in = true;
@@ -177,11 +162,6 @@ impl<B: BusBrand> Connection<B> {
             let _ = server.clients.enter(rt, number, link);
         }
         server.notes.leave(rt, Note::Came(number));
-    }
-
-    /// The poll told of room to write.
-    pub(crate) fn has_room<W: Wait>(&self, rt: &W) {
-        self.mailbox.has_room(rt);
     }
 
     /// Reads into the block and treats what came, as far as it goes in one turn. A read that doesn't fill the block took

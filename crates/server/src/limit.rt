@@ -1,7 +1,7 @@
 // What a server has limits of.
 
 ghost use Rattle.std.specs.Prelude.{◌≡◌, IfSome};
-ghost use Rattle.server.specs.Limits.{name_of, unit_of, standard_of, most_of};
+ghost use Rattle.server.specs.Limits.{row, row_of};
 
 /// What a server has a limit of.
 #[derive(Clone, Copy, Debug, PartialEq, Eq)]
@@ -50,159 +50,92 @@ struct Terms {
     unit: &'static str,
 }
 
+/// Each limit: its name, its standard number, the highest one, and what it counts.
+macro_rules! limits {
+    ($rows:ident $($with:tt)*) => {
+        $rows! {
+            ($($with)*)
+            Rules "rules" 512, u32::MAX, "rules and programs";
+            AllRules "all-rules" 16_384, 65_534, "rules and programs";
+            Instructions "instructions" 65_536, u32::MAX, "instructions";
+            AllInstructions "all-instructions" 4_096_000, u32::MAX, "instructions";
+            Names "names" 512, u32::MAX, "names";
+            AllNames "all-names" 1_024, 1_024, "names";
+            Claims "claims" 4_096, 4_096, "claims";
+            Calls "calls" 50_000, u32::MAX, "calls";
+            Messages "messages" 100_000, u32::MAX, "messages";
+            Bytes "bytes" 67_108_864, u32::MAX, "bytes";
+            Unfinished "unfinished" 33_554_432, u32::MAX, "bytes";
+            Silence "silence" 30, u32::MAX, "seconds";
+            Clients "clients" 256, 4_096, "clients";
+            Newcomers "newcomers" 64, u32::MAX, "connections";
+            Hello "hello" 30, u32::MAX, "seconds";
+        }
+    };
+}
+
+macro_rules! all {
+    (() $($limit:ident $name:literal $standard:literal, $most:expr, $unit:literal;)*) => {
+        [$(Limit::$limit),*]
+    };
+}
+
+macro_rules! terms {
+    (($of:expr) $($limit:ident $name:literal $standard:literal, $most:expr, $unit:literal;)*) => {
+        match $of {
+            $(Limit::$limit => Terms {
+                name: $name,
+                standard: $standard,
+                most: $most,
+                unit: $unit,
+            },)*
+        }
+    };
+}
+
 impl Limit {
     /// All of them, in the order of the table.
-    pub const ALL: [Limit; 15] = [
-        Limit::Rules,
-        Limit::AllRules,
-        Limit::Instructions,
-        Limit::AllInstructions,
-        Limit::Names,
-        Limit::AllNames,
-        Limit::Claims,
-        Limit::Calls,
-        Limit::Messages,
-        Limit::Bytes,
-        Limit::Unfinished,
-        Limit::Silence,
-        Limit::Clients,
-        Limit::Newcomers,
-        Limit::Hello,
-    ];
+    pub const ALL: [Limit; 15] = limits!(all);
 
     /// The limit of this name, if there is one.
     pub fn of(name: &str) -> Option<Limit>
-        ensures { IfSome result (λ limit. name_of limit ≡ name.now) }
+        ensures { IfSome result (λ limit. (row_of limit).name ≡ name.now) }
     {
         Limit::ALL.into_iter().find(|limit| limit.name() == name)
     }
 
     /// Its name, as words have it.
     pub fn name(self) -> &'static str
-        ensures { result.now ≡ name_of self }
+        ensures { result.now ≡ (row_of self).name }
     {
         self.terms().name
     }
 
     /// The number where no other is asked for.
     pub fn standard(self) -> u32
-        ensures { result ≡ standard_of self }
+        ensures { result ≡ (row_of self).standard }
     {
         self.terms().standard
     }
 
     /// The highest number that may be asked for.
     pub fn most(self) -> u32
-        ensures { result ≡ most_of self }
+        ensures { result ≡ (row_of self).most }
     {
         self.terms().most
     }
 
     /// What its number counts.
     pub fn unit(self) -> &'static str
-        ensures { result.now ≡ unit_of self }
+        ensures { result.now ≡ (row_of self).unit }
     {
         self.terms().unit
     }
 
     /// The table of limits.
     fn terms(self) -> Terms
-        ensures name { result.name.now ≡ name_of self }
-        ensures unit { result.unit.now ≡ unit_of self }
-        ensures standard { result.standard ≡ standard_of self }
-        ensures most { result.most ≡ most_of self }
+        ensures { row result.name.now result.standard result.most result.unit.now ≡ row_of self }
     {
-        match self {
-            Limit::Rules => Terms {
-                name: "rules",
-                standard: 512,
-                most: u32::MAX,
-                unit: "rules and programs",
-            },
-            Limit::AllRules => Terms {
-                name: "all-rules",
-                standard: 16_384,
-                most: 65_534,
-                unit: "rules and programs",
-            },
-            Limit::Instructions => Terms {
-                name: "instructions",
-                standard: 65_536,
-                most: u32::MAX,
-                unit: "instructions",
-            },
-            Limit::AllInstructions => Terms {
-                name: "all-instructions",
-                standard: 4_096_000,
-                most: u32::MAX,
-                unit: "instructions",
-            },
-            Limit::Names => Terms {
-                name: "names",
-                standard: 512,
-                most: u32::MAX,
-                unit: "names",
-            },
-            Limit::AllNames => Terms {
-                name: "all-names",
-                standard: 1_024,
-                most: 1_024,
-                unit: "names",
-            },
-            Limit::Claims => Terms {
-                name: "claims",
-                standard: 4_096,
-                most: 4_096,
-                unit: "claims",
-            },
-            Limit::Calls => Terms {
-                name: "calls",
-                standard: 50_000,
-                most: u32::MAX,
-                unit: "calls",
-            },
-            Limit::Messages => Terms {
-                name: "messages",
-                standard: 100_000,
-                most: u32::MAX,
-                unit: "messages",
-            },
-            Limit::Bytes => Terms {
-                name: "bytes",
-                standard: 67_108_864,
-                most: u32::MAX,
-                unit: "bytes",
-            },
-            Limit::Unfinished => Terms {
-                name: "unfinished",
-                standard: 33_554_432,
-                most: u32::MAX,
-                unit: "bytes",
-            },
-            Limit::Silence => Terms {
-                name: "silence",
-                standard: 30,
-                most: u32::MAX,
-                unit: "seconds",
-            },
-            Limit::Clients => Terms {
-                name: "clients",
-                standard: 256,
-                most: 4_096,
-                unit: "clients",
-            },
-            Limit::Newcomers => Terms {
-                name: "newcomers",
-                standard: 64,
-                most: u32::MAX,
-                unit: "connections",
-            },
-            Limit::Hello => Terms {
-                name: "hello",
-                standard: 30,
-                most: u32::MAX,
-                unit: "seconds",
-            },
-        }
+        limits!(terms self)
     }
 }

@@ -2,7 +2,7 @@
 
 ghost use Rattle.std.specs.Prelude.{◌≡◌, ◌≤◌};
 ghost use Rattle.server.specs.declared.limit.Limit.{Limit};
-ghost use Rattle.server.specs.Limits.{standard_of, number_of};
+ghost use Rattle.server.specs.Limits.{row_of, number_of};
 
 use crate::limit::Limit;
 use members::Room;
@@ -35,7 +35,7 @@ pub struct Limits {
 impl Limits {
     /// The standard limits, and one worker.
     pub fn standard() -> Limits
-        ensures table { (limit : Limit) → number_of result limit ≡ standard_of limit }
+        ensures table { (limit : Limit) → number_of result limit ≡ (row_of limit).standard }
         ensures worker { result.workers ≡ 1 }
     {
         Limits {

@@ -234,12 +234,12 @@ impl<'a, B: BusBrand, R: Wait + Drop> Worker<'a, B, R> {
             return;
         };
         if has_room {
-            connection.has_room(rt);
+            connection.mailbox.has_room(rt);
         }
         let was_watched = connection.is_watched();
         connection.lend(self.reader.take());
         let turn = connection.read(rt, self.alloc, self.server, &mut self.scratch, has_ended);
-        self.reader = connection.reclaim();
+        self.reader = connection.session.reclaim();
         let is_watched = connection.is_watched();
         self.recount(was_watched, is_watched);
         match turn {
@@ -327,7 +327,7 @@ impl<'a, B: BusBrand, R: Wait + Drop> Worker<'a, B, R> {
     fn end_all<W: Wait>(&mut self, rt: &W) {
         self.is_ending = true;
         for (_, connection) in self.connections.iter() {
-            connection.shut();
+            connection.link.shut();
         }
         for key in 0..self.connections.capacity() {
             self.end(rt, key, Some(Cause::BusEnds));
@@ -344,7 +344,7 @@ impl<'a, B: BusBrand, R: Wait + Drop> Worker<'a, B, R> {
             cause = Some(Cause::Limit(Limit::Newcomers));
         }
         let cause = cause.map(|cause| connection.told(cause));
-        let number = connection.number();
+        let number = connection.session.number();
         self.find_reader(rt);
         connection.lend(self.reader.take());
         let link = connection.end(rt, self.alloc, self.server, &mut self.scratch.aids.lists);

@@ -1,4 +1,4 @@
-// A descriptor in reserve.
+// A spare descriptor.
 
 use endpoints::{Link, Listener};
 use std::fs::{File, Files};
@@ -10,15 +10,15 @@ const NOTHING: &str = "/dev/null";
 /// A descriptor that is kept for the moment in which no other is left: without one a client that waits in the system's
 /// queue could not even be told to go.
 #[derive(Drop)]
-pub(crate) struct Reserve {
+pub(crate) struct SpareDescriptor {
     file: Option<File>,
     // Connections are closed for want of another one.
     is_needed: bool,
 }
 
-impl Reserve {
-    pub(crate) fn new<R: Files<File = File>>(rt: &R) -> Reserve {
-        Reserve {
+impl SpareDescriptor {
+    pub(crate) fn new<R: Files<File = File>>(rt: &R) -> SpareDescriptor {
+        SpareDescriptor {
             file: File::open(rt, NOTHING).ok(),
             is_needed: false,
         }
@@ -36,8 +36,8 @@ impl Reserve {
         self.file = File::open(rt, NOTHING).ok();
     }
 
-    /// Accepts the next connection by the descriptor in reserve, and closes it. If another descriptor came back
-    /// meanwhile, that is the reserve, and the connection is answered.
+    /// Accepts the next connection by the spare descriptor, and closes it. If another descriptor came back
+    /// meanwhile, that is the spare one, and the connection is answered.
     pub(crate) fn accept<R: Files<File = File>>(
         &mut self,
         rt: &R,
