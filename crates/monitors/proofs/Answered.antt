@@ -1,9 +1,9 @@
 -- Whether a rule holds, given what was answered of its sender name.
-use Rattle.std.proofs.Common.{ℕ, ◌≡◌, Bool, true, false, List, [], ◌∷◌, length, Option, Some, None, refl, inr, arith, ap, subst}
-use Rattle.std.specs.Prelude.{◌↔◌, IsTrue, IfSome, MatchBool, All, Any}
+use Rattle.std.proofs.Common.{ℕ, ◌≡◌, Bool, true, false, List, [], ◌∷◌, length, Option, Some, None, refl, inl, inr, arith, ap, subst}
+use Rattle.std.specs.Prelude.{◌⊎◌, ◌↔◌, IsTrue, IfSome, MatchBool, All, Any}
 use Rattle.message_view.specs.Message.{Message, destination_of}
 use Rattle.match_rule.specs.RuleTree.{RuleTree, sender_name_of}
-use Rattle.match_rule.specs.Holds.{Agrees}
+use Rattle.match_rule.specs.Holds.{Holds, Agrees}
 use Rattle.monitors.specs.Sending.{HoldsAsLed, IsLed, destination_asked}
 use Rattle.monitors.specs.Wanting.{HoldsFor, FailsFor, Wants, WantsNot}
 
@@ -12,8 +12,15 @@ agrees None b = tt
 agrees (Some name) b = refl
 
 -- one answer serves for all names, since the rule asks for one at most
-pub agreed : (rule : RuleTree) (b : Bool) → Agrees rule (λ _. b) b
+agreed : (rule : RuleTree) (b : Bool) → Agrees rule (λ _. b) b
 agreed rule b = agrees (sender_name_of rule) b
+
+-- a rule that asks for no destination, or to which the message isn't led, holds of the message as it is
+pub unled : (asked : Option (List ℕ)) (led : Bool) (rule : RuleTree) (m : Message) (b r : Bool) → (asked ≡ None) ⊎ (led ≡ false) → (Agrees rule (λ _. b) b → IsTrue r ↔ Holds rule m (λ _. b)) → IsTrue r ↔ HoldsAsLed asked led rule m (λ _. b)
+unled None led rule m b r not holds = holds (agreed rule b)
+unled (Some name) false rule m b r not holds = holds (agreed rule b)
+unled (Some name) true rule m b r (inl e) holds = absurd cc
+unled (Some name) true rule m b r (inr e) holds = absurd cc
 
 pub answered : (answers : List ℕ → Bool → Type 0) (unites : List ℕ → List ℕ → Bool → Type 0) (m : Message) (rule : RuleTree) (asked : Option (List ℕ)) (b led r : Bool)
     → asked ≡ destination_asked rule.conditions

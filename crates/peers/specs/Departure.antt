@@ -98,15 +98,13 @@ module _ {M : Type 0} where
   ClosesIf outbox_of false farewell v leaving w = (leaving ≡ Refused) × (w ≡ v)
 
   -- A peer leaves: it gives up its names one after the other, each change announced, closes its pass after the farewell, announces
-  -- that its own name is gone, and tells those who wait for its replies, in this order, and does nothing else. Then nothing that it
-  -- has put to others waits to be written out.
+  -- that its own name is gone, and tells those who wait for its replies, in this order, and does nothing else.
   abbrev pub Departs : (M → OutboxId) → Farewell → PeerState M → Leaving → PeerState M → Type 0
-  Departs outbox_of farewell v leaving w =
-      (cleared : Bool) × (mid last : PeerState M) × AreGivenUp outbox_of cleared v mid × ClosesIf outbox_of cleared farewell mid leaving last × (w ≡ with_pass last (pass_written last.pass))
+  Departs outbox_of farewell v leaving w = (cleared : Bool) × (mid : PeerState M) × AreGivenUp outbox_of cleared v mid × ClosesIf outbox_of cleared farewell mid leaving w
 
-  -- the peer of a client that is gone
+  -- That of a client that is gone leaves. Then nothing that it has put to others waits to be written out.
   abbrev pub Leaves : (M → OutboxId) → PeerState M → Leaving → PeerState M → Type 0
-  Leaves outbox_of v leaving w = Departs outbox_of Silent v leaving w
+  Leaves outbox_of v leaving w = (last : PeerState M) × Departs outbox_of Silent v leaving last × (w ≡ with_pass last (pass_written last.pass))
 
   -- a peer that has left has closed its pass, or that is shut out
   abbrev pub HasLeft : Leaving → PeerState M → Type 0

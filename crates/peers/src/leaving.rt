@@ -55,10 +55,17 @@ impl<B: BusBrand, M: Mailbox> Peer<B, M> {
         ensures leaves { Leaves M.outbox_of self.old result self.new }
         ensures closed { HasLeft result self.new }
     {
-        self.depart(context, lists, Farewell::Silent)
+        context
+            .bus
+            .monitors()
+            .remove(context.rt, self.pass.connection());
+        let leaving = self.depart(context, lists, Farewell::Silent);
+        self.pass.push_out(context.rt);
+        leaving
     }
 
-    /// Leaves the bus, as `leave` says. A client that stays is told that its unique name is lost, before that is announced.
+    /// Leaves the bus, as `leave` says, but that nothing is written out. A client that stays is told that its unique name is lost,
+    /// before that is announced.
     pub(crate) fn depart<W: Wait, R: Wait + Drop>(
         &mut self,
         context: &Context<'_, B, M, W, R>,
@@ -68,17 +75,11 @@ impl<B: BusBrand, M: Mailbox> Peer<B, M> {
         ensures leaves { Departs M.outbox_of farewell self.old result self.new }
         ensures closed { HasLeft result self.new }
     {
-        context
-            .bus
-            .monitors()
-            .remove(context.rt, self.pass.connection());
-        let leaving = if self.give_up_names(context, lists) {
+        if self.give_up_names(context, lists) {
             self.close(context, lists, farewell)
         } else {
             Leaving::Refused
-        };
-        self.pass.push_out(context.rt);
-        leaving
+        }
     }
 
     // Whether no name is left.

@@ -116,7 +116,8 @@ impl<B: BusBrand, M: Mailbox> Peer<B, M> {
         }
     }
 
-    // Leaves the bus. Its client stays, and is told so.
+    // Leaves the bus. Its client stays, and is told so. That is written out once it watches, so that whoever has read the answer is
+    // shown all that comes then.
     fn go_under<W: Wait, R: Wait + Drop>(
         &mut self,
         context: &Context<'_, B, M, W, R>,

@@ -1,4 +1,4 @@
-use Rattle.std.proofs.Common.{subst, sym}
+use Rattle.std.proofs.Common.{refl, subst, sym, arith}
 use Rattle.match_rule.specs.declared.condition.Condition.{Condition}
 use Rattle.match_rule.proofs.OneSender.{more_hold}
 use Rattle.monitors.specs.Sending.{SaysIfSent}
@@ -15,3 +15,6 @@ returns-then-not-says_if_sent c = λ m valid. (
       let held = (c.says_if_sent.ensures m valid).1 (subst (λ (x : Condition). SaysIfSent c.args.to.now m (λ name. c.args.owns) x) (sym c.condition-item.is) (all c.loop-condition.condition-index c.condition-item.result c.loop-condition-test.true)) in
       absurd cc,
 )
+
+pub returns : goal.returns
+returns c = λ m valid. ((λ e k d below. c.loop-condition.invariant m valid k d (omega arith)), λ all. refl)
