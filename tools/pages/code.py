@@ -6,8 +6,8 @@ from .page import TOP, source
 
 UNBOUNDED = 4294967295
 ARGUMENT = re.compile(r'name: "([^"]+)",\s+form: Form::(\w+)(?:\(Value::(\w+)(?:\("([^"]+)"\))?\))?')
-LIMIT = re.compile(r'name: "([^"]+)",\s+standard: ([\d_]+),\s+most: ([\w:]+),\s+unit: "([^"]+)"')
-METHOD = re.compile(r'^    \w+ ([A-Z]+) "(\w+)" \("(.*)"\) -> "(.*)";$', re.M)
+LIMIT = re.compile(r'^ +\w+ "([^"]+)" ([\d_]+), ([\w:]+), "([^"]+)";$', re.M)
+METHOD = re.compile(r'^ +\w+ ([A-Z]+) "(\w+)" \("(.*)"\) -> "([^"]*)"(?: \w+ [\w, ]+)?;$', re.M)
 
 
 class Limit(NamedTuple):
@@ -54,9 +54,8 @@ def limits():
 
 def methods():
     """Each method of the bus: its interface, its name, and the signatures of its arguments and its answer."""
-    text = source("crates/bus_messages/src/method.rt")
-    interfaces = dict(re.findall(r'const ([A-Z]+): &str = "([\w.]+)";', text))
-    return [(interfaces[interface], *row) for interface, *row in METHOD.findall(text)]
+    interfaces = dict(re.findall(r'const ([A-Z]+): &str = "([\w.]+)";', source("crates/bus_messages/src/interface.rt")))
+    return [(interfaces[interface], *row) for interface, *row in METHOD.findall(source("crates/bus_messages/src/call.rt"))]
 
 
 def errors():

@@ -65,7 +65,10 @@ impl<B: BusBrand, M: Mailbox> Newcomer<B, M> {
         ensures new { (result.serial ≡ 1) × (result.holdings ≡ nothing_held) }
     {
         let Newcomer {
-            own, identity, all, ..
+            own,
+            identity,
+            all,
+            ..
         } = self;
         let mut peer = Peer::new(alloc, pass, own, identity);
         if let Some(all) = all {

@@ -318,7 +318,9 @@ impl<B: BusBrand, M: Mailbox> Session<B, M> {
             return Ok(Step::Waits);
         }
         let bytes = self.input.unread();
-        let taken = self.talk.take_line(context.rt, context.alloc, &mut newcomer.own, bytes)?;
+        let taken = self
+            .talk
+            .take_line(context.rt, context.alloc, &mut newcomer.own, bytes)?;
         self.input.skip(taken);
         Ok(Step::Done)
     }
