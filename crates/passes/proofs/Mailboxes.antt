@@ -73,11 +73,11 @@ module _ {M : Type 0} where
 
   -- a connection that is left out has no mailbox, and each other one has its own
   mailbox-without : (n d : ℕ) (cs : List (Connection M)) → mailbox_of n (without_connection d cs) ≡ cond (d == n) None (mailbox_of n cs)
-  mailbox-without n d [] = nowhere (d == n)
+  mailbox-without n d [] = nowhere (d == n) None refl
     where
-      nowhere : (b : Bool) → Id (Option M) None (cond b None None)
-      nowhere true = refl
-      nowhere false = refl
+      nowhere : (b : Bool) (o : Option M) → o ≡ None → o ≡ cond b None o
+      nowhere true o e = e
+      nowhere false o e = refl
   mailbox-without n d (x ∷ cs) = go (has_number d x) (has_number n x) (d == n) refl refl refl (mailbox-without n d cs)
     where
       go : (gone is_it same : Bool) → has_number d x ≡ gone → has_number n x ≡ is_it → (d == n) ≡ same → mailbox_of n (without_connection d cs) ≡ cond (d == n) None (mailbox_of n cs)

@@ -10,7 +10,7 @@ use Rattle.published.proofs.Refused.{accepted}
 use Rattle.routing.specs.Turns.{TurnView, queue_at}
 use Rattle.passes.specs.Passes.{PassState}
 use Rattle.passes.specs.Theirs.{HaveTurns}
-use Rattle.passes.proofs.Theirs.{turns_joined}
+use Rattle.passes.proofs.Theirs.{no_turn, turns_joined}
 use Rattle.passes.proofs.Commands.{IsTold, seen_all}
 use Rattle.passes.proofs.Joining.{IsFresh, room_for_one, first_own, joined, next_number, not_none}
 use Rattle.passes.proofs.control.Control.connect.Goals as goal
@@ -62,7 +62,9 @@ add-requires-clause-new g c =
     let n = c.in-Connected.number in
     let next = next_number (after h) c.args.mailbox n (sym c.in-Ok.ensures.reply ∙ c.in-Connected.is) in
     let P : List TurnView → Type 0 = λ t. queue_at n t ≡ None in
-    subst P (sym c.reserve.ensures.same.1) (c.self.invariant.given n (omega (arith, next)))
+    let L : Publication g.row.M.Denot → Type 0 = λ p. IsHistory p.history in
+    let legal = subst L (sym c.self.view_is) c.state.ensures.history in
+    subst P (sym c.reserve.ensures.same.1) (no_turn g.M.Mailbox.outbox_of h n c.self.inside.turns.turns legal (omega (arith, next)) c.self.invariant)
 
 pub invariant_of-self-2 : goal.invariant_of-self-2
 invariant_of-self-2 g c =
