@@ -1,16 +1,16 @@
 // A client's session.
 
-ghost use Rattle.std.specs.Prelude.{◌≡◌, ◌++◌, ℕ, List, [], None, IfErr, IfOk, IfSome, MatchBool, is_some, length, true};
+ghost use Rattle.std.specs.Prelude.{◌≡◌, ◌++◌, ℕ, List, [], None, IfErr, IfOk, IfSome, is_some, length, true};
 ghost use Rattle.auth.specs.Admissions.{any_admission};
 ghost use Rattle.message_view.specs.Message.{Message};
 ghost use Rattle.message_view.specs.Valid.{Valid};
 ghost use Rattle.sessions.specs.Openings.{IsOpeningOf};
-ghost use Rattle.sessions.specs.Steps.{Feeds, IsFoundShut, IsShutIf, Steps, TakesNext, TakesMessage, TakesLine};
+ghost use Rattle.sessions.specs.Steps.{Feeds, IsShutIf, Steps, TakesNext, TakesMessage, TakesLine};
 ghost use Rattle.sessions.specs.Ends.{EndsAny};
 ghost use Rattle.sessions.specs.Subjects.{HasLooked, IsNextSubject};
 ghost use Rattle.sessions.specs.SessionState.{connection_of, new_session, client_written};
 
-use crate::client::{Client, Newcomer};
+use crate::client::Client;
 use crate::ending::{Rest, end};
 use crate::error::SessionError;
 use crate::opening::Opening;
@@ -22,8 +22,8 @@ use frames::Frames;
 use message_view::{MsgError, View};
 use outbox::Turn;
 use peers::{
-    AllInstructions, Bus, BusBrand, Command, Context, Identity, Mailbox, OwnOutbox, Published,
-    RouteLists, Shares, Shown, StateReader,
+    AllInstructions, Bus, BusBrand, Command, Context, Identity, Mailbox, Published, RouteLists,
+    Shares, Shown, StateReader,
 };
 use std::alloc::Global;
 use std::collections::LinkedList;
@@ -53,11 +53,11 @@ where
     Published: Protocol<Shown<B, M>, LinkedList<Command<M>>>,
 {
     ghost use Rattle.std.specs.Prelude.{◌≡◌, None};
-    ghost use Rattle.sessions.specs.SessionState.{SessionState, own_outbox, peer_of};
+    ghost use Rattle.sessions.specs.SessionState.{SessionState};
 
     ghost Value = { SessionState M };
 
-    ghost view = { λ s. record { standing = s.talk.auth; has_begun = s.talk.has_begun; unread = s.input.unread; outbox = own_outbox s.client; peer = peer_of s.client; fault = s.fault } };
+    ghost view = { λ s. record { standing = s.talk.auth; has_begun = s.talk.has_begun; unread = s.input.unread; outbox = s.client.outbox; peer = s.client.peer; fault = s.fault } };
 
     // The faults of messages are kept in the session's own fault, and not in its frames.
     ghost invariant = { λ s. s.input.fault ≡ None };
@@ -92,12 +92,7 @@ impl<B: BusBrand, M: Mailbox> Session<B, M> {
         Session {
             talk: Talk::admitting(identity.guid, admission),
             input: Frames::new(alloc),
-            client: Client::Newcomer(Newcomer {
-                own: OwnOutbox::new(mailbox, turn),
-                identity,
-                all: None,
-                reader: None,
-            }),
+            client: Client::new(mailbox, turn, identity),
             fault: None,
         }
     }
@@ -107,9 +102,7 @@ impl<B: BusBrand, M: Mailbox> Session<B, M> {
     pub fn share_instructions(&mut self, all: Arc<AllInstructions>)
         ensures { self.new ≡ self.old }
     {
-        if let Client::Newcomer(newcomer) = &mut self.client {
-            newcomer.all = Some(all);
-        }
+        self.client.share_instructions(all);
     }
 
     /// Reads the bus's state by this reader until it is reclaimed, so that a thread may lend its one reader to each session
@@ -118,22 +111,14 @@ impl<B: BusBrand, M: Mailbox> Session<B, M> {
     pub fn lend(&mut self, reader: StateReader<B, M>)
         ensures { self.new ≡ self.old }
     {
-        match &mut self.client {
-            Client::Newcomer(newcomer) => newcomer.reader = Some(reader),
-            Client::Peer(peer) => peer.lend(reader),
-            Client::Arriving => {}
-        }
+        self.client.lend(reader);
     }
 
     /// Gives up the reader.
     pub fn reclaim(&mut self) -> Option<StateReader<B, M>>
         ensures { self.new ≡ self.old }
     {
-        match &mut self.client {
-            Client::Newcomer(newcomer) => newcomer.reader.take(),
-            Client::Peer(peer) => peer.reclaim(),
-            Client::Arriving => None,
-        }
+        self.client.reclaim()
     }
 
     /// Whether the talk is over and messages are read.
@@ -147,17 +132,14 @@ impl<B: BusBrand, M: Mailbox> Session<B, M> {
     pub fn is_connected(&self) -> bool
         ensures { result ≡ is_some self.now.peer }
     {
-        matches!(self.client, Client::Peer(_))
+        self.client.is_connected()
     }
 
     /// The number of its client's connection, by which its unique name is made, once Hello was accepted.
     pub fn number(&self) -> Option<u64>
         ensures { result ≡ connection_of self.now.peer }
     {
-        match &self.client {
-            Client::Peer(peer) => Some(peer.connection()),
-            Client::Newcomer(_) | Client::Arriving => None,
-        }
+        self.client.number()
     }
 
     /// How many bytes wait to be handled. Once a step waits, they are of a line or a message that isn't whole.
@@ -239,11 +221,11 @@ impl<B: BusBrand, M: Mailbox> Session<B, M> {
     ///
     /// Why the session ends, and from then on always. It is `Slow` only where the client's outbox is known to be shut. What
     /// the session has put may still be written out.
-    pub fn step<'a, W: Wait, R: Wait + Drop>(
+    pub fn step<W: Wait, R: Wait + Drop>(
         &mut self,
-        rt: &'a W,
+        rt: &W,
         alloc: Global,
-        bus: &'a Bus<B, M, R>,
+        bus: &Bus<B, M, R>,
         shares: Shares,
         lists: &mut RouteLists,
     ) -> Result<Step, SessionError>
@@ -253,7 +235,7 @@ impl<B: BusBrand, M: Mailbox> Session<B, M> {
         if let Some(fault) = self.fault {
             return Err(fault);
         }
-        if self.is_shut() {
+        if self.client.is_shut() {
             return Err(self.fail(SessionError::Slow));
         }
         let context = Context {
@@ -266,18 +248,6 @@ impl<B: BusBrand, M: Mailbox> Session<B, M> {
         match self.take_next(&context, lists) {
             Ok(step) => Ok(step),
             Err(error) => Err(self.fail(error)),
-        }
-    }
-
-    // Whether the client's outbox was shut, since a message found no room.
-    fn is_shut(&mut self) -> bool
-        ensures shut { MatchBool result (IsFoundShut self.old.peer self.new.peer) (self.new ≡ self.old) }
-        ensures same { self.new ≡ record self.old { peer = self.new.peer } }
-    {
-        match &mut self.client {
-            Client::Newcomer(newcomer) => newcomer.own.is_shut(),
-            Client::Peer(peer) => peer.is_shut(),
-            Client::Arriving => false,
         }
     }
 
@@ -311,16 +281,14 @@ impl<B: BusBrand, M: Mailbox> Session<B, M> {
         ensures takes { TakesLine self.old result self.new }
         ensures slow { IfErr result (λ error. IsShutIf self.new.peer error) }
     {
-        let Client::Newcomer(newcomer) = &mut self.client else {
+        let Some(own) = &mut self.client.own else {
             return Ok(Step::Waits);
         };
         if self.input.is_empty() {
             return Ok(Step::Waits);
         }
         let bytes = self.input.unread();
-        let taken = self
-            .talk
-            .take_line(context.rt, context.alloc, &mut newcomer.own, bytes)?;
+        let taken = self.talk.take_line(context.rt, context.alloc, own, bytes)?;
         self.input.skip(taken);
         Ok(Step::Done)
     }
@@ -352,11 +320,7 @@ impl<B: BusBrand, M: Mailbox> Session<B, M> {
     pub fn push_out<W: Wait>(&mut self, rt: &W)
         ensures { self.new ≡ record self.old { peer = client_written self.old.peer } }
     {
-        match &mut self.client {
-            Client::Newcomer(newcomer) => newcomer.own.push_out(rt),
-            Client::Peer(peer) => peer.push_out(rt),
-            Client::Arriving => {}
-        }
+        self.client.push_out(rt);
     }
 
     /// What the end of the client's bytes means here.
@@ -393,9 +357,9 @@ impl<B: BusBrand, M: Mailbox> Session<B, M> {
         ensures { EndsAny M.outbox_of self.peer result }
     {
         let Session { client, .. } = self;
-        let Client::Peer(peer) = client else {
-            return None;
-        };
-        end(peer, &Context::unlimited(rt, alloc, bus), lists)
+        match client.into_peer() {
+            Some(peer) => end(peer, &Context::unlimited(rt, alloc, bus), lists),
+            None => None,
+        }
     }
 }
