@@ -221,11 +221,11 @@ impl<B: BusBrand, M: Mailbox> Session<B, M> {
     ///
     /// Why the session ends, and from then on always. It is `Slow` only where the client's outbox is known to be shut. What
     /// the session has put may still be written out.
-    pub fn step<W: Wait, R: Wait + Drop>(
+    pub fn step<'a, W: Wait, R: Wait + Drop>(
         &mut self,
-        rt: &W,
+        rt: &'a W,
         alloc: Global,
-        bus: &Bus<B, M, R>,
+        bus: &'a Bus<B, M, R>,
         shares: Shares,
         lists: &mut RouteLists,
     ) -> Result<Step, SessionError>
