@@ -1,6 +1,6 @@
 -- What a pass that was admitted may do.
-use Rattle.std.proofs.Common.{◌≡◌, ℕ, inl, inr, false, List, [], ◌∷◌, ◌++◌, refl, sym, ap, ◌∙◌, subst, arith, append_assoc}
-use Rattle.std.specs.Prelude.{Result, Ok, Err}
+use Rattle.std.proofs.Common.{◌≡◌, ℕ, inl, inr, Bool, false, List, [], ◌∷◌, ◌++◌, refl, sym, ap, ◌∙◌, subst, arith, append_assoc}
+use Rattle.std.specs.Prelude.{Result, Ok, Err, IsErrAnd}
 use mathlib.Core.List.{IsPrefix}
 use Rattle.program_table.specs.declared.command.Command.{Command}
 use Rattle.program_table.specs.declared.command.Reply.{Reply}
@@ -10,7 +10,7 @@ use Rattle.passes.specs.declared.error.BusError.{BusError}
 use Rattle.passes.specs.Passes.{PassState, HasTaken}
 use Rattle.passes.specs.Calls.{IsShutOut, unconnected, closed, ended, others, fewer, Answers}
 use Rattle.passes.specs.Admission.{IsAdmitted}
-use Rattle.passes.specs.Readiness.{IsReady}
+use Rattle.passes.specs.Readiness.{Admits, IsReady}
 use Rattle.passes.proofs.Owned.{own_same}
 use Rattle.passes.proofs.Done.{counted}
 use Rattle.passes.proofs.Commands.{IsTold, IsCounted}
@@ -99,3 +99,15 @@ module _ {M : Type 0} where
   unfolding told_history
   answers_admitted v u w before next command result taken legal a is h =
       answers v w before next command result taken legal a (subst (λ (p : PassState M). Answers false p before command result w next) is h)
+
+  -- a pass that isn't admitted is Closed
+  pub not_admitted : (v w : PassState M) (before : Publication M) (closes : Bool) (command : Command M) (error : BusError) → Admits v before (Err error) w → Answers closes v before command (Err error) w before
+  not_admitted v w before closes command error (is, stopped, why) = inr (stopped, inl (is, why))
+
+  -- what a call is answered is handed on
+  pub handed_on : (closes : Bool) (v w : PassState M) (before next : Publication M) (command : Command M) (result : Result Reply BusError) (error : BusError) → IsErrAnd result (λ e. e ≡ error) → Answers closes v before command (Err error) w next
+      → Answers closes v before command result w next
+  handed_on closes v w before next command (Ok reply) error is h = absurd is
+  handed_on closes v w before next command (Err e) error is h =
+      let P : BusError → Type 0 = λ x. Answers closes v before command (Err x) w next in
+      subst P (sym is) h
