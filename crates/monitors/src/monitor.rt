@@ -70,9 +70,8 @@ impl<M: Mailbox> Monitor<M> {
 
     /// Whether one of its rules asks for a sender by a name that it owns, or for a destination.
     pub(crate) fn asks_for_owners(&self) -> bool {
-        self.rules
-            .iter()
-            .any(|rule| rule.sender_name().is_some() || destination_asked(rule).is_some())
+        self.rules.iter().any(|rule| rule.sender_name().is_some()
+            || destination_asked(rule).is_some())
     }
 
     /// Whether it wants a message: it has no rules, or one of them holds.

@@ -30,7 +30,10 @@ fn show_all<M: Mailbox, W: Wait, O: Owners>(
 ) {
     let mut place = 0;
     'monitors: while place < list.len() {
-        if list[place].show(rt, alloc, view, bytes, owners).is_refused() {
+        if list[place]
+            .show(rt, alloc, view, bytes, owners)
+            .is_refused()
+        {
             list.remove(place);
         } else {
             place += 1;
