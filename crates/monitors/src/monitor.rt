@@ -3,7 +3,7 @@
 ghost use Rattle.std.specs.Prelude.{◌≡◌, None, IfOk};
 ghost use Rattle.monitors.specs.Showing.{message_of};
 
-use crate::owners::{Owners, any_holds_of, destination_asked};
+use crate::asking::{Owners, any_holds_of, destination_asked};
 use crate::shown::Shown;
 use bytes::Bytes;
 use match_rule::Rule;

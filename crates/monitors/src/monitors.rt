@@ -1,7 +1,7 @@
 // The clients that watch a bus.
 
+use crate::asking::Owners;
 use crate::monitor::Monitor;
-use crate::owners::Owners;
 use bytes::Bytes;
 use match_rule::Rule;
 use message_view::View;
