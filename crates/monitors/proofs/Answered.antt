@@ -32,8 +32,10 @@ answered answers unites m rule asked b led r is says leads holds = go r holds'
   where
     holds' : IsTrue r ↔ HoldsAsLed (destination_asked rule.conditions) led rule m (λ _. b)
     holds' = subst (λ (a : Option (List ℕ)). IsTrue r ↔ HoldsAsLed a led rule m (λ _. b)) is holds
+
     leads' : IsLed unites (destination_of m) (destination_asked rule.conditions) led
     leads' = subst (λ (a : Option (List ℕ)). IsLed unites (destination_of m) a led) is leads
+
     go : (x : Bool) → (IsTrue x ↔ HoldsAsLed (destination_asked rule.conditions) led rule m (λ _. b)) → MatchBool x (HoldsFor answers unites m rule) (FailsFor answers unites m rule)
     go true h = ((λ _. b), led, says, leads', h.0 refl)
     go false h = ((λ _. b), led, says, leads', λ held. let e = h.1 held in absurd cc)

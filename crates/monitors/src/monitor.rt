@@ -3,7 +3,7 @@
 ghost use Rattle.std.specs.Prelude.{◌≡◌, None, IfOk};
 ghost use Rattle.monitors.specs.Showing.{message_of};
 
-use crate::owners::{Owners, any_holds_of, destination_asked};
+use crate::asking::{Owners, any_holds_of, destination_asked};
 use crate::shown::Shown;
 use bytes::Bytes;
 use match_rule::Rule;
@@ -70,9 +70,8 @@ impl<M: Mailbox> Monitor<M> {
 
     /// Whether one of its rules asks for a sender by a name that it owns, or for a destination.
     pub(crate) fn asks_for_owners(&self) -> bool {
-        self.rules
-            .iter()
-            .any(|rule| rule.sender_name().is_some() || destination_asked(rule).is_some())
+        self.rules.iter().any(|rule| rule.sender_name().is_some()
+            || destination_asked(rule).is_some())
     }
 
     /// Whether it wants a message: it has no rules, or one of them holds.

@@ -1,7 +1,7 @@
 // The clients that watch a bus.
 
+use crate::asking::Owners;
 use crate::monitor::Monitor;
-use crate::owners::Owners;
 use bytes::Bytes;
 use match_rule::Rule;
 use message_view::View;
@@ -30,7 +30,10 @@ fn show_all<M: Mailbox, W: Wait, O: Owners>(
 ) {
     let mut place = 0;
     'monitors: while place < list.len() {
-        if list[place].show(rt, alloc, view, bytes, owners).is_refused() {
+        if list[place]
+            .show(rt, alloc, view, bytes, owners)
+            .is_refused()
+        {
             list.remove(place);
         } else {
             place += 1;

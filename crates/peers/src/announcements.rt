@@ -221,7 +221,9 @@ impl<B: BusBrand, M: Mailbox> Peer<B, M> {
         let Ok(bytes) = built_message else {
             return Err(AnswerError::NoMemory);
         };
-        context.under(control).show(None, &bytes);
+        context
+            .bus
+            .show_under(context.rt, context.alloc, control, None, &bytes);
         let sent = control.send_to(
             context.rt,
             context.alloc,
@@ -283,7 +285,9 @@ impl<B: BusBrand, M: Mailbox> Peer<B, M> {
         ensures control { control.new ≡ control.old }
     {
         let view = View::of_message(bytes.as_slice());
-        context.under(control).show(None, bytes);
+        context
+            .bus
+            .show_under(context.rt, context.alloc, control, None, bytes);
         let routed = control.broadcast(
             context.rt,
             context.alloc,

@@ -238,7 +238,9 @@ impl<B: BusBrand, M: Mailbox> Peer<B, M> {
         ensures slow { SlowIfShut result self.new }
         ensures control { control.new ≡ control.old }
     {
-        context.under(control).show(None, &message);
+        context
+            .bus
+            .show_under(context.rt, context.alloc, control, None, &message);
         let sent = control.send_to(
             context.rt,
             context.alloc,

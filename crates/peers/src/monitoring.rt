@@ -11,7 +11,7 @@ use crate::peer::Peer;
 use crate::refused::Refused;
 use crate::request::Request;
 use crate::sending::stamp_message;
-use bus_messages::{Body, ErrorName};
+use bus_messages::{Body, Bytes, ErrorName};
 use match_rule::Rule;
 use message_view::View;
 use router::{BusBrand, BusError, Control, Mailbox, RouteLists};
@@ -26,10 +26,7 @@ impl<B: BusBrand, M: Mailbox> Peer<B, M> {
         context: &Context<'_, B, M, W, R>,
         view: &View<'_>,
     ) {
-        if context.bus.monitors().is_empty() {
-            return;
-        }
-        if let Ok(bytes) = stamp_message(context.alloc, view, &self.name) {
+        if let Some(bytes) = self.stamped_if_watched(context, view) {
             context.show(Some(self.pass.connection()), &bytes);
         }
     }
@@ -41,7 +38,24 @@ impl<B: BusBrand, M: Mailbox> Peer<B, M> {
         control: &Control<B, M, R>,
         view: &View<'_>,
     ) {
-        self.show(&context.under(control), view);
+        if let Some(bytes) = self.stamped_if_watched(context, view) {
+            let number = Some(self.pass.connection());
+            context
+                .bus
+                .show_under(context.rt, context.alloc, control, number, &bytes);
+        }
+    }
+
+    // The message as it is passed on, if anybody watches.
+    fn stamped_if_watched<W: Wait, R: Wait + Drop>(
+        &self,
+        context: &Context<'_, B, M, W, R>,
+        view: &View<'_>,
+    ) -> Option<Bytes> {
+        if context.bus.monitors().is_empty() {
+            return None;
+        }
+        stamp_message(context.alloc, view, &self.name).ok()
     }
 
     /// Has the client watch all that goes through the bus, as far as one of these rules holds of it, or everything if there are

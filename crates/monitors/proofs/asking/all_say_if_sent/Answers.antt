@@ -2,7 +2,7 @@ use Rattle.std.proofs.Common.{refl, subst, sym, arith}
 use Rattle.match_rule.specs.declared.condition.Condition.{Condition}
 use Rattle.match_rule.proofs.OneSender.{more_hold}
 use Rattle.monitors.specs.Sending.{SaysIfSent}
-use Rattle.monitors.proofs.owners.all_say_if_sent.Goals as goal
+use Rattle.monitors.proofs.asking.all_say_if_sent.Goals as goal
 
 pub loop-condition-preserved : goal.loop-condition-preserved
 loop-condition-preserved c = λ m valid.

@@ -2,7 +2,7 @@ use Rattle.std.proofs.Common.{List, ℕ, Option, subst}
 use Rattle.std.specs.Prelude.{option_map}
 use Rattle.monitors.specs.Sending.{IsLed}
 use Rattle.monitors.proofs.Answered.{answered}
-use Rattle.monitors.proofs.owners.holds_of.Goals as goal
+use Rattle.monitors.proofs.asking.holds_of.Goals as goal
 
 pub returns : goal.returns
 returns g c = λ m valid.

@@ -1,6 +1,6 @@
 use Rattle.std.proofs.Common.{◌≡◌, drop}
 use Rattle.monitors.specs.Sending.{destination_asked}
-use Rattle.monitors.proofs.owners.first_destination.Given as goal
+use Rattle.monitors.proofs.asking.first_destination.Given as goal
 
 -- none in front asks for one
 abbrev pub invariant-loop-condition : goal.invariant-loop-condition

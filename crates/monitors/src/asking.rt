@@ -17,6 +17,7 @@ pub trait Owners {
 
     /// What may be answered of a name, and of two. Owners change at any time, so it may be this now and that later.
     ghost answers: { Self → List ℕ → Bool → Type 0 };
+
     ghost unites: { Self → List ℕ → List ℕ → Bool → Type 0 };
 
     /// Whether the message's sender is the primary owner of the name.
@@ -108,13 +109,7 @@ fn holds_if_sent(rule: &Rule, view: &View<'_>, owns: bool, to: &str) -> bool
 }
 
 /// Whether a rule holds of a message, or as if it were sent to the name that the rule asks for, if it is led there.
-fn holds_as_led(
-    rule: &Rule,
-    view: &View<'_>,
-    owns: bool,
-    asked: Option<&str>,
-    is_led: bool,
-) -> bool
+fn holds_as_led(rule: &Rule, view: &View<'_>, owns: bool, asked: Option<&str>, is_led: bool) -> bool
     ensures { (m : Message) → Valid view.now m → (IsTrue result ↔ HoldsAsLed (option_map (λ text. text.now) asked.entry) is_led rule.now m (λ name. owns)) }
 {
     match asked {

@@ -3,7 +3,7 @@ use Rattle.message_view.specs.Message.{Message}
 use Rattle.message_view.specs.Valid.{Valid}
 use Rattle.match_rule.specs.RuleTree.{RuleTree}
 use Rattle.monitors.specs.Wanting.{FailsFor}
-use Rattle.monitors.proofs.owners.any_holds_of.Given as goal
+use Rattle.monitors.proofs.asking.any_holds_of.Given as goal
 
 -- those in front don't hold
 abbrev pub invariant-loop-rule : goal.invariant-loop-rule

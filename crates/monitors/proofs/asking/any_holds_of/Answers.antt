@@ -1,7 +1,7 @@
 use Rattle.std.proofs.Common.{sym}
 use Rattle.match_rule.proofs.OneSender.{more_hold}
 use Rattle.monitors.specs.Wanting.{FailsFor}
-use Rattle.monitors.proofs.owners.any_holds_of.Goals as goal
+use Rattle.monitors.proofs.asking.any_holds_of.Goals as goal
 
 pub loop-rule-preserved : goal.loop-rule-preserved
 loop-rule-preserved g c = λ m valid.

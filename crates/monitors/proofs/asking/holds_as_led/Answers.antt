@@ -1,7 +1,7 @@
 use Rattle.std.proofs.Common.{List, ℕ, Option, Bor, inl, inr, ap}
 use Rattle.std.specs.Prelude.{option_map}
 use Rattle.monitors.proofs.Answered.{unled}
-use Rattle.monitors.proofs.owners.holds_as_led.Goals as goal
+use Rattle.monitors.proofs.asking.holds_as_led.Goals as goal
 
 pub returns-else-is_led : goal.returns-else-is_led
 returns-else-is_led c = λ m valid. unled (option_map (λ text. text.now) c.args.asked) c.args.is_led c.args.rule.now m c.args.owns c.holds.result (inr c.if-is_led.false) (c.holds.ensures m (λ _. c.args.owns) valid)

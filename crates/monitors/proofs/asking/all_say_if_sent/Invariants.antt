@@ -3,7 +3,7 @@ use Rattle.message_view.specs.Message.{Message}
 use Rattle.message_view.specs.Valid.{Valid}
 use Rattle.match_rule.specs.declared.condition.Condition.{Condition}
 use Rattle.monitors.specs.Sending.{SaysIfSent}
-use Rattle.monitors.proofs.owners.all_say_if_sent.Given as goal
+use Rattle.monitors.proofs.asking.all_say_if_sent.Given as goal
 
 -- those in front hold
 abbrev pub invariant-loop-condition : goal.invariant-loop-condition
