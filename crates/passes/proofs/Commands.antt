@@ -75,7 +75,7 @@ module _ {M : Type 0} where
           seen = to ∙ ap (after_error error) (t.same ∙ ap (λ (k : List (Command M)). let p : PassState M = record v { seen = k } in p) t.told_is);
         },
         keeps v x l pre h.taken.own (own_count v before connection took h) (ap (λ (p : PassState M). p.seen) to ∙ seen_all v w told_history before t)
-        (ap (λ (p : PassState M). p.took) to ∙ ap (λ (p : PassState M). p.took) t.same),
+            (ap (λ (p : PassState M). p.took) to ∙ ap (λ (p : PassState M). p.took) t.same),
       )
 
   -- the command is accepted, and is of the pass's connection
