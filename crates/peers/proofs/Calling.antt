@@ -1,5 +1,6 @@
 -- Calls that clients make of one another, and their replies.
-use Rattle.std.proofs.Common.{arith, ◌≡◌, ℕ, zero, suc, ◌+◌, Bool, true, List, Some, Result, Ok, Err, inl, inr, ap, subst, ◌∙◌}
+use Rattle.std.proofs.Common.{arith, ◌≡◌, ◌⊎◌, ℕ, zero, suc, ◌+◌, Bool, true, false, List, [], ◌∷◌, Some, None, Result, Ok, Err, inl, inr, refl, sym, ap, subst, ◌∙◌, length}
+use Rattle.std.specs.Prelude.{nat_lt}
 use Rattle.outbox.specs.Seated.{OutboxId}
 use Rattle.message_view.specs.declared.kind.Kind.{Kind}
 use Rattle.message_view.specs.Message.{Message}
@@ -7,7 +8,10 @@ use Rattle.message_view.specs.Valid.{Valid}
 use Rattle.message_build.specs.Asked.{Asked}
 use Rattle.message_build.specs.declared.error.BuildError.{BuildError}
 use Rattle.bus_messages.specs.Sent.{Builds, error_asked}
-use Rattle.bus_messages.specs.declared.error_name.ErrorName.TheVariants.{NoReply}
+use Rattle.bus_messages.specs.declared.error_name.ErrorName.TheVariants.{NoReply, NoMemory}
+use Rattle.bus_messages.specs.declared.exceeded.Exceeded.TheVariants.{Calls}
+use Rattle.router.specs.OpenCall.{OpenCall}
+use Rattle.router.specs.OpenCalls.{AreCallsTo, calls_of, oldest_to, shard_count, without, without_all}
 use Rattle.router.specs.Passes.{PassState}
 use Rattle.router.specs.Sent.{Sent}
 use Rattle.router.specs.Standing.TheVariants as standings
@@ -15,11 +19,15 @@ use Rattle.router.specs.Sent.TheVariants as sent
 use Rattle.router.specs.Unicasts.{Unicasts}
 use Rattle.unique_name.specs.UniqueNames.{unique_name}
 use Rattle.peers.specs.declared.error.AnswerError.{AnswerError}
+use Rattle.peers.specs.declared.refused.Refused.TheVariants.{Error}
+use Rattle.peers.specs.declared.request.Request.{Request}
+use Rattle.peers.specs.declared.shares.Shares.{Shares}
 use Rattle.peers.specs.Announcements.{IsTold}
 use Rattle.peers.specs.Answers.{after_serial}
-use Rattle.peers.specs.Calling.{IsOfKind, AnswersCaller, AnswersMany, AnswersCallers, gone_asked}
-use Rattle.peers.specs.Passing.{with_pass}
+use Rattle.peers.specs.Calling.{IsOfKind, SendsCall, CallsBy, CallsWaiting, CallsWithin, CallsStamped, AnswersCaller, AnswersEach, EndsCalls, EndsCallsOf, AnswersCallers, gone_asked}
+use Rattle.peers.specs.Passing.{IsRequestOf, GivesUp, with_pass}
 use Rattle.peers.specs.PeerState.{PeerState}
+use Rattle.peers.specs.Refusals.{beyond}
 
 next_is : (n : ℕ) → suc n ≡ n + 1
 next_is n = omega arith
@@ -45,9 +53,42 @@ module _ {M : Type 0} where
         subst P is (subst N e (sent_as (gone_asked v.serial m reply_to) (gone_built v.serial m reply_to built (subst (B v.serial) t (subst (λ k. B k to) s b))))),
       )
 
-  -- one more was told
-  pub one_more : (outbox_of : M → OutboxId) (n caller serial : ℕ) (v mid w : PeerState M) → AnswersMany outbox_of n v mid → AnswersCaller outbox_of caller serial mid w → AnswersMany outbox_of (n + 1) v w
-  one_more outbox_of n caller serial v mid w many one = let P : ℕ → Type 0 = λ k. AnswersMany outbox_of k v w in subst P (next_is n) (mid, caller, serial, many, one)
+  -- a client whose share has no room for the call is refused
+  pub above_share : (outbox_of : M → OutboxId) (shares : Shares) (request : Request) (bytes to stamped : List ℕ) (calls left : List OpenCall) (v w : PeerState M) (result : Result (Unit {0}) AnswerError) → nat_lt (length (calls_of v.pass.connection calls)) shares.calls ≡ false
+      → GivesUp bytes (beyond Calls) v result w → left ≡ calls → CallsWaiting outbox_of shares request bytes to stamped calls v result left w
+  above_share outbox_of shares request bytes to stamped calls left v w result full given same =
+      let P : Bool → Type 0 = λ b. CallsWithin outbox_of b request bytes to stamped calls v result left w in
+      subst P (sym full) (given, same)
+
+  -- one whose share has room is passed on, unless memory is refused
+  pub within_share : (outbox_of : M → OutboxId) (shares : Shares) (request : Request) (bytes to stamped : List ℕ) (calls left : List OpenCall) (v w : PeerState M) (result : Result (Unit {0}) AnswerError) → nat_lt (length (calls_of v.pass.connection calls)) shares.calls ≡ true
+      → CallsStamped outbox_of request bytes to stamped calls v result left w ⊎ (GivesUp bytes (Error NoMemory) v result w × (left ≡ calls)) → CallsWaiting outbox_of shares request bytes to stamped calls v result left w
+  within_share outbox_of shares request bytes to stamped calls left v w result room sent =
+      let P : Bool → Type 0 = λ b. CallsWithin outbox_of b request bytes to stamped calls v result left w in
+      subst P (sym room) sent
+
+  -- whether the caller waits is said by the message
+  pub called : (outbox_of : M → OutboxId) (shares : Shares) (request : Request) (wants : Bool) (bytes to stamped : List ℕ) (v w : PeerState M) (result : Result (Unit {0}) AnswerError) → request.wants_answer ≡ wants
+      → ((m : Message) → Valid bytes m → IsRequestOf m request) → CallsBy outbox_of shares wants request bytes to stamped v result w → SendsCall outbox_of shares bytes to stamped v result w
+  called outbox_of shares request wants bytes to stamped v w result is asks sent m valid =
+      let P : Bool → Type 0 = λ b. CallsBy outbox_of shares b request bytes to stamped v result w in
+      (request, asks m valid, subst P (sym is) sent)
+
+  -- no call is left
+  pub ends_none : (outbox_of : M → OutboxId) (callee : ℕ) (calls : List OpenCall) (v : PeerState M) → oldest_to callee calls ≡ None → EndsCalls outbox_of callee calls v calls v
+  ends_none outbox_of callee calls v none = ([], none, refl, refl)
+
+  -- one call is ended before the others
+  pub ends_first : (outbox_of : M → OutboxId) (callee : ℕ) (call : OpenCall) (calls rest left : List OpenCall) (v mid w : PeerState M) → oldest_to callee calls ≡ Some call → rest ≡ without call calls
+      → AnswersCaller outbox_of call.caller call.serial v mid → EndsCalls outbox_of callee rest mid left w → EndsCalls outbox_of callee calls v left w
+  ends_first outbox_of callee call calls rest left v mid w first is answered (ended, are, others, each) =
+      let A : List OpenCall → Type 0 = λ l. AreCallsTo callee ended l in
+      let L : List OpenCall → Type 0 = λ l. left ≡ without_all ended l in
+      (call ∷ ended, (first, subst A is are), subst L is others, (mid, answered, each))
+
+  -- those under one lock more
+  pub ends_more : (outbox_of : M → OutboxId) (callee n : ℕ) (calls left : List OpenCall) (v mid w : PeerState M) → EndsCallsOf outbox_of callee n v mid → EndsCalls outbox_of callee calls mid left w → EndsCallsOf outbox_of callee (n + 1) v w
+  ends_more outbox_of callee n calls left v mid w before ends = let P : ℕ → Type 0 = λ k. EndsCallsOf outbox_of callee k v w in subst P (next_is n) (mid, calls, left, before, ends)
 
   -- a message of the bus to one connection closes no pass and opens none
   unicast_closes_none : (outbox_of : M → OutboxId) (to bytes : List ℕ) (v w : PassState M) (s : Sent) → Unicasts standings.Apart outbox_of to bytes v s w → w.is_closed ≡ v.is_closed
@@ -61,11 +102,15 @@ module _ {M : Type 0} where
   told_closes_none outbox_of asked to v w (Err error) (is, inr (why, inl (gone, same))) = ap (λ (p : PassState M). p.is_closed) same
   told_closes_none outbox_of asked to v w (Err error) (is, inr (why, inr (lost, unput))) = ap (λ (p : PassState M). p.is_closed) unput.sends.same
 
-  many_close_none : (outbox_of : M → OutboxId) (n : ℕ) (v w : PeerState M) → AnswersMany outbox_of n v w → w.pass.is_closed ≡ v.pass.is_closed
-  many_close_none outbox_of zero v w same = ap (λ (p : PeerState M). p.pass.is_closed) same
-  many_close_none outbox_of (suc n) v w (mid, caller, serial, many, (outcome, made, is)) =
-      told_closes_none outbox_of (gone_asked mid.serial caller serial) (unique_name caller) mid.pass w.pass outcome is ∙ many_close_none outbox_of n v mid many
+  each_closes_none : (outbox_of : M → OutboxId) (ended : List OpenCall) (v w : PeerState M) → AnswersEach outbox_of ended v w → w.pass.is_closed ≡ v.pass.is_closed
+  each_closes_none outbox_of [] v w same = ap (λ (p : PeerState M). p.pass.is_closed) same
+  each_closes_none outbox_of (call ∷ more) v w (mid, (outcome, made, is), each) =
+      each_closes_none outbox_of more mid w each ∙ told_closes_none outbox_of (gone_asked v.serial call.caller call.serial) (unique_name call.caller) v.pass mid.pass outcome is
+
+  ends_close_none : (outbox_of : M → OutboxId) (callee n : ℕ) (v w : PeerState M) → EndsCallsOf outbox_of callee n v w → w.pass.is_closed ≡ v.pass.is_closed
+  ends_close_none outbox_of callee zero v w same = ap (λ (p : PeerState M). p.pass.is_closed) same
+  ends_close_none outbox_of callee (suc n) v w (mid, calls, left, before, (ended, are, others, each)) = each_closes_none outbox_of ended mid w each ∙ ends_close_none outbox_of callee n v mid before
 
   -- who tells those that wait closes no pass and opens none
   pub callers_close_none : (outbox_of : M → OutboxId) (v w : PeerState M) → AnswersCallers outbox_of v w → w.pass.is_closed ≡ v.pass.is_closed
-  callers_close_none outbox_of v w (n, many) = many_close_none outbox_of n v w many
+  callers_close_none outbox_of v w ends = ends_close_none outbox_of v.pass.connection shard_count v w ends

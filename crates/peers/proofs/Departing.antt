@@ -1,6 +1,6 @@
 -- How a peer leaves the bus.
 use Rattle.std.proofs.Common.{◌≡◌, true, [], append-nil, Some, None, Result, Ok, Err, inl, inr, refl, sym, ap, subst, ◌∙◌}
-use Rattle.std.specs.Prelude.{codes}
+use Rattle.std.specs.Prelude.{codes, IfErr}
 use Rattle.outbox.specs.Seated.{OutboxId}
 use Rattle.message_build.specs.Asked.{Asked}
 use Rattle.router.specs.Standing.TheVariants as standings
@@ -62,15 +62,15 @@ module _ {M : Type 0} where
   signalled outbox_of asked v w (Err error) (is, inr (why, inl (gone, same))) = ap (λ (p : PassState M). p.is_closed) same
   signalled outbox_of asked v w (Err error) (is, inr (why, inr (lost, unput))) = ap (λ (p : PassState M). p.is_closed) unput.sends.same
 
-  -- whoever is done has closed its pass
-  closes : (outbox_of : M → OutboxId) (v w : PeerState M) (before next : Publication M) (asked : Result Reply BusError) (pass : PassState M) (leaving : Leaving) → Answers true v.pass before (Close v.pass.connection) asked pass next → IsClosing outbox_of next.history asked (with_pass v pass) leaving w → HasLeft leaving w
-  closes outbox_of v w before next (Ok reply) pass leaving done (is, announced, (made, signal, here)) =
+  -- whoever is done has closed its pass, and if the bus has ended, it is shut out
+  pub has_left : (outbox_of : M → OutboxId) (v w : PeerState M) (before next : Publication M) (asked : Result Reply BusError) (pass : PassState M) (leaving : Leaving) → Answers true v.pass before (Close v.pass.connection) asked pass next → IfErr asked (λ _. pass.is_shut_out ≡ true) → IsClosing outbox_of next.history asked (with_pass v pass) leaving w → HasLeft leaving w
+  has_left outbox_of v w before next (Ok reply) pass leaving done shut (is, announced, (made, signal, here)) =
       let P : Leaving → Type 0 = λ l. HasLeft l w in
       let u : PeerState M = with_pass v pass in
       subst P (sym is) (signalled outbox_of (change_asked u.serial (name_of u) (Some pass.connection) None) pass w.pass announced signal ∙ done.2)
-  closes outbox_of v w before next (Err errors.NoMemory) pass leaving done (is, same) = let P : Leaving → Type 0 = λ l. HasLeft l w in subst P (sym is) tt
-  closes outbox_of v w before next (Err error) pass leaving done (is, same) = let P : Leaving → Type 0 = λ l. HasLeft l w in subst P (sym is) tt
+  has_left outbox_of v w before next (Err errors.NoMemory) pass leaving done shut (is, same) = let P : Leaving → Type 0 = λ l. HasLeft l w in subst P (sym is) tt
+  has_left outbox_of v w before next (Err error) pass leaving done shut (is, same) = let P : Leaving → Type 0 = λ l. HasLeft l w in subst P (sym is) (ap (λ (p : PeerState M). p.pass.is_shut_out) same ∙ shut)
 
   -- and telling those who wait opens none
-  pub left_done : (outbox_of : M → OutboxId) (farewell : Farewell) (v mid w : PeerState M) → ClosesPass outbox_of farewell v Done mid → AnswersCallers outbox_of mid w → HasLeft Done w
-  left_done outbox_of farewell v mid w (before, next, (told, lost, asked, pass, tells, done, is)) answers = callers_close_none outbox_of mid w answers ∙ closes outbox_of told mid before next asked pass Done done is
+  pub left_done : (outbox_of : M → OutboxId) (v w : PeerState M) → HasLeft Done v → AnswersCallers outbox_of v w → HasLeft Done w
+  left_done outbox_of v w closed answers = callers_close_none outbox_of v w answers ∙ closed

@@ -106,8 +106,8 @@ module _ {M : Type 0} where
   abbrev pub Leaves : (M → OutboxId) → PeerState M → Leaving → PeerState M → Type 0
   Leaves outbox_of v leaving w = (last : PeerState M) × Departs outbox_of Silent v leaving last × (w ≡ with_pass last (pass_written last.pass))
 
-  -- a peer that has left has closed its pass
+  -- a peer that has left has closed its pass, or that is shut out
   abbrev pub HasLeft : Leaving → PeerState M → Type 0
   HasLeft Done w = w.pass.is_closed ≡ true
-  HasLeft Ended w = Unit {0}
+  HasLeft Ended w = w.pass.is_shut_out ≡ true
   HasLeft Refused w = Unit {0}

@@ -91,11 +91,14 @@ module _ {M : Type 0} where
   Concludes bytes (Ok put) v result w = (result ≡ Ok tt) × (w ≡ v)
   Concludes bytes (Err error) v result w = GivesUp bytes (refusal_of error) v result w
 
+  -- the stamped message went so to the owner of a name, or nothing was put
+  abbrev pub WentSo : (M → OutboxId) → List ℕ → List ℕ → PassState M → Result Sent BusError → PassState M → Type 0
+  WentSo outbox_of to stamped v went w = MatchResult went (λ sent. Unicasts standings.Apart outbox_of to stamped v sent w) (λ error. IsUnsent outbox_of error v w)
+
   -- a stamped message to the owner of a name, of the bytes that the client sent
   abbrev pub SendsAtOnce : (M → OutboxId) → List ℕ → List ℕ → List ℕ → PeerState M → Result (Unit {0}) AnswerError → PeerState M → Type 0
   SendsAtOnce outbox_of bytes to stamped v result w =
-      (mid : PassState M) × (asked : Result Sent BusError)
-      × MatchResult asked (λ sent. Unicasts standings.Apart outbox_of to stamped v.pass sent mid) (λ error. IsUnsent outbox_of error v.pass mid) × Concludes bytes asked (with_pass v mid) result w
+      (mid : PassState M) × (went : Result Sent BusError) × WentSo outbox_of to stamped v.pass went mid × Concludes bytes went (with_pass v mid) result w
 
   -- the same, maybe after the name was found to have no owner, so that nothing was put
   abbrev pub SendsStamped : (M → OutboxId) → List ℕ → List ℕ → List ℕ → PeerState M → Result (Unit {0}) AnswerError → PeerState M → Type 0

@@ -141,7 +141,8 @@ impl<B: BusBrand, M: Mailbox> Peer<B, M> {
         lists: &mut RouteLists,
         farewell: Farewell,
     ) -> Leaving
-        ensures { ClosesPass M.outbox_of farewell self.old result self.new }
+        ensures closes { ClosesPass M.outbox_of farewell self.old result self.new }
+        ensures closed { HasLeft result self.new }
     {
         let mut guard = context.bus.control(context.rt);
         let control = &mut *guard;
