@@ -26,6 +26,6 @@ module _ {M : Type 0} where
 
   -- A newcomer with this outbox, whose Hello of these bytes was answered, and whose name was announced, after the history that its
   -- pass has seen, of which its Connect is the last command.
-  abbrev pub IsWelcome : (M → OutboxId) → List ℕ → OutboxId → Result (Unit {0}) AnswerError → PeerState M → Type 0
-  IsWelcome outbox_of bytes outbox registered w =
+  abbrev pub IsRegistered : (M → OutboxId) → List ℕ → OutboxId → Result (Unit {0}) AnswerError → PeerState M → Type 0
+  IsRegistered outbox_of bytes outbox registered w =
       (v : PeerState M) × (request : Request) × IsNewcomer outbox_of v × (v.own.outbox ≡ outbox) × ((m : Message) → Valid bytes m → (is_hello m ≡ true) × IsRequestOf m request) × Registers outbox_of v.pass.seen request v registered w

@@ -7,18 +7,19 @@ ghost use Rattle.peers.specs.Answers.{SlowIfShut};
 ghost use Rattle.peers.specs.Handling.{names_bus};
 ghost use Rattle.router.specs.Passes.{new_pass};
 ghost use Rattle.sessions.specs.Hello.{is_hello, is_hello_member};
-ghost use Rattle.sessions.specs.Newcomers.{IsWelcome};
+ghost use Rattle.sessions.specs.Newcomers.{IsRegistered};
 
+use crate::client::Newcomer;
 use crate::error::SessionError;
 use bus_messages::Call;
 use message_view::View;
 use peers::{
-    AnswerError, BUS_NAME, BusBrand, BusError, Context, Identity, Mailbox, OwnOutbox, Pass, Peer,
-    Refused, Request, RouteLists, StateReader, is_for_bus, join, put_refusal,
+    AnswerError, BUS_NAME, BusBrand, BusError, Context, Mailbox, Pass, Peer, Refused, Request,
+    RouteLists, StateReader, is_for_bus, join, put_refusal,
 };
 use std::sync::Wait;
 
-/// The peer that the first message makes of an outbox, which comes back if it makes none, and what became of the answer and the
+/// The peer that the first message makes of a newcomer, who comes back if it makes none, and what became of the answer and the
 /// announcements. It reads the bus's state by the reader that is lent, or else by its own.
 ///
 /// # Errors
@@ -28,21 +29,19 @@ use std::sync::Wait;
 pub(crate) fn greet<B: BusBrand, M: Mailbox, W: Wait, R: Wait + Drop>(
     context: &Context<'_, B, M, W, R>,
     lists: &mut RouteLists,
-    lent: &mut Option<StateReader<B, M>>,
-    own: OwnOutbox<M>,
-    identity: Identity,
+    mut newcomer: Newcomer<B, M>,
     view: &View<'_>,
-) -> Result<(Peer<B, M>, Result<(), AnswerError>), (SessionError, OwnOutbox<M>)>
-    ensures peer { IfOk result (λ made. IsWelcome M.outbox_of view.now own.outbox made.1 made.0) }
+) -> Result<(Peer<B, M>, Result<(), AnswerError>), (SessionError, Newcomer<B, M>)>
+    ensures peer { IfOk result (λ made. IsRegistered M.outbox_of view.now newcomer made.1 made.0) }
     ensures slow { IfOk result (λ made. SlowIfShut made.1 made.0) }
-    ensures outbox { IfErr result (λ refused. refused.1.outbox ≡ own.outbox) }
+    ensures outbox { IfErr result (λ refused. refused.1 ≡ newcomer) }
 {
     if !is_hello(view) {
-        return Err((SessionError::NoHello, own));
+        return Err((SessionError::NoHello, newcomer));
     }
-    match pass_for(context, lent, view) {
-        Ok(pass) => let_in(context, lists, pass, own, identity, view),
-        Err(why) => Err(turn_away(context, own, view, why)),
+    match pass_for(context, &mut newcomer.reader, view) {
+        Ok(pass) => let_in(context, lists, pass, newcomer, view),
+        Err(why) => Err(turn_away(context, newcomer, view, why)),
     }
 }
 
@@ -51,28 +50,27 @@ fn let_in<B: BusBrand, M: Mailbox, W: Wait, R: Wait + Drop>(
     context: &Context<'_, B, M, W, R>,
     lists: &mut RouteLists,
     mut pass: Pass<B, M>,
-    mut own: OwnOutbox<M>,
-    identity: Identity,
+    mut newcomer: Newcomer<B, M>,
     view: &View<'_>,
-) -> Result<(Peer<B, M>, Result<(), AnswerError>), (SessionError, OwnOutbox<M>)>
+) -> Result<(Peer<B, M>, Result<(), AnswerError>), (SessionError, Newcomer<B, M>)>
     requires new { pass ≡ new_pass pass.seen }
     requires hello { (m : Message) → Valid view.now m → is_hello m ≡ true }
-    ensures peer { IfOk result (λ made. IsWelcome M.outbox_of view.now own.outbox made.1 made.0) }
+    ensures peer { IfOk result (λ made. IsRegistered M.outbox_of view.now newcomer made.1 made.0) }
     ensures slow { IfOk result (λ made. SlowIfShut made.1 made.0) }
-    ensures outbox { IfErr result (λ refused. refused.1.outbox ≡ own.outbox) }
+    ensures outbox { IfErr result (λ refused. refused.1 ≡ newcomer) }
 {
     let mut guard = context.bus.control(context.rt);
     let control = &mut *guard;
-    match join(control, &mut pass, &mut own) {
+    match join(control, &mut pass, &mut newcomer.own) {
         Ok(()) => {
-            let mut peer = Peer::new(context.alloc, pass, own, identity);
+            let mut peer = newcomer.into_peer(context.alloc, pass);
             peer.show_first(context, view);
             let registered = peer.register(context, lists, control, Request::of(view));
             Ok((peer, registered))
         }
         Err(why) => {
             context.give_back(pass);
-            Err(turn_away(context, own, view, why))
+            Err(turn_away(context, newcomer, view, why))
         }
     }
 }
@@ -80,18 +78,18 @@ fn let_in<B: BusBrand, M: Mailbox, W: Wait, R: Wait + Drop>(
 // Answers a Hello that is refused, and says why the session ends.
 fn turn_away<B: BusBrand, M: Mailbox, W: Wait, R: Wait + Drop>(
     context: &Context<'_, B, M, W, R>,
-    mut own: OwnOutbox<M>,
+    mut newcomer: Newcomer<B, M>,
     view: &View<'_>,
     why: Refused,
-) -> (SessionError, OwnOutbox<M>)
-    ensures { result.1.outbox ≡ own.outbox }
+) -> (SessionError, Newcomer<B, M>)
+    ensures { result.1 ≡ newcomer }
 {
     let Refused::Error(name) = why else {
-        return (SessionError::NoMemory, own);
+        return (SessionError::NoMemory, newcomer);
     };
-    match put_refusal(context, &mut own, Request::of(view), name) {
-        Ok(()) => (SessionError::NoHello, own),
-        Err(error) => (SessionError::from(error), own),
+    match put_refusal(context, &mut newcomer.own, Request::of(view), name) {
+        Ok(()) => (SessionError::NoHello, newcomer),
+        Err(error) => (SessionError::from(error), newcomer),
     }
 }
 

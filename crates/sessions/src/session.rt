@@ -7,7 +7,7 @@ ghost use Rattle.sessions.specs.Ends.{EndsAny};
 ghost use Rattle.sessions.specs.Subjects.{HasLooked, IsNextSubject};
 ghost use Rattle.sessions.specs.SessionState.{connection_of, new_session, client_written};
 
-use crate::client::Client;
+use crate::client::{Client, Newcomer};
 use crate::ending::{Rest, end};
 use crate::error::SessionError;
 use crate::step::Step;
@@ -18,8 +18,8 @@ use frames::Frames;
 use message_view::{MsgError, View};
 use outbox::Turn;
 use peers::{
-    AllInstructions, Bus, BusBrand, Command, Context, Identity, Mailbox, Published, RouteLists,
-    Shares, Shown, StateReader,
+    AllInstructions, Bus, BusBrand, Command, Context, Identity, Mailbox, OwnOutbox, Published,
+    RouteLists, Shares, Shown, StateReader,
 };
 use std::alloc::Global;
 use std::collections::LinkedList;
@@ -49,11 +49,11 @@ where
     Published: Protocol<Shown<B, M>, LinkedList<Command<M>>>,
 {
     ghost use Rattle.std.specs.Prelude.{◌≡◌, None};
-    ghost use Rattle.sessions.specs.SessionState.{SessionState};
+    ghost use Rattle.sessions.specs.SessionState.{SessionState, own_outbox, peer_of};
 
     ghost Value = { SessionState M };
 
-    ghost view = { λ s. record { standing = s.talk.auth; has_begun = s.talk.has_begun; unread = s.input.unread; outbox = s.client.outbox; peer = s.client.peer; fault = s.fault } };
+    ghost view = { λ s. record { standing = s.talk.auth; has_begun = s.talk.has_begun; unread = s.input.unread; outbox = own_outbox s.client; peer = peer_of s.client; fault = s.fault } };
 
     // The faults of messages are kept in the session's own fault, and not in its frames.
     ghost invariant = { λ s. s.input.fault ≡ None };
@@ -88,7 +88,12 @@ impl<B: BusBrand, M: Mailbox> Session<B, M> {
         Session {
             talk: Talk::admitting(identity.guid, admission),
             input: Frames::new(alloc),
-            client: Client::new(mailbox, turn, identity),
+            client: Client::Newcomer(Newcomer {
+                own: OwnOutbox::new(mailbox, turn),
+                identity,
+                all: None,
+                reader: None,
+            }),
             fault: None,
         }
     }
@@ -98,7 +103,9 @@ impl<B: BusBrand, M: Mailbox> Session<B, M> {
     pub fn share_instructions(&mut self, all: Arc<AllInstructions>)
         ensures { self.new ≡ self.old }
     {
-        self.client.share_instructions(all);
+        if let Client::Newcomer(newcomer) = &mut self.client {
+            newcomer.all = Some(all);
+        }
     }
 
     /// Reads the bus's state by this reader until it is reclaimed, so that a thread may lend its one reader to each session
@@ -107,14 +114,22 @@ impl<B: BusBrand, M: Mailbox> Session<B, M> {
     pub fn lend(&mut self, reader: StateReader<B, M>)
         ensures { self.new ≡ self.old }
     {
-        self.client.lend(reader);
+        match &mut self.client {
+            Client::Newcomer(newcomer) => newcomer.reader = Some(reader),
+            Client::Peer(peer) => peer.lend(reader),
+            Client::Arriving => {}
+        }
     }
 
     /// Gives up the reader.
     pub fn reclaim(&mut self) -> Option<StateReader<B, M>>
         ensures { self.new ≡ self.old }
     {
-        self.client.reclaim()
+        match &mut self.client {
+            Client::Newcomer(newcomer) => newcomer.reader.take(),
+            Client::Peer(peer) => peer.reclaim(),
+            Client::Arriving => None,
+        }
     }
 
     /// Whether the talk is over and messages are read.
@@ -128,14 +143,17 @@ impl<B: BusBrand, M: Mailbox> Session<B, M> {
     pub fn is_connected(&self) -> bool
         ensures { result ≡ is_some self.now.peer }
     {
-        self.client.is_connected()
+        matches!(self.client, Client::Peer(_))
     }
 
     /// The number of its client's connection, by which its unique name is made, once Hello was accepted.
     pub fn number(&self) -> Option<u64>
         ensures { result ≡ connection_of self.now.peer }
     {
-        self.client.number()
+        match &self.client {
+            Client::Peer(peer) => Some(peer.connection()),
+            Client::Newcomer(_) | Client::Arriving => None,
+        }
     }
 
     /// How many bytes wait to be handled. Once a step waits, they are of a line or a message that isn't whole.
@@ -266,14 +284,16 @@ impl<B: BusBrand, M: Mailbox> Session<B, M> {
         ensures takes { TakesLine self.old result self.new }
         ensures slow { IfErr result (λ error. IsShutIf self.new.peer error) }
     {
-        let Some(own) = &mut self.client.own else {
+        let Client::Newcomer(newcomer) = &mut self.client else {
             return Ok(Step::Waits);
         };
         if self.input.is_empty() {
             return Ok(Step::Waits);
         }
         let bytes = self.input.unread();
-        let taken = self.talk.take_line(context.rt, context.alloc, own, bytes)?;
+        let taken = self
+            .talk
+            .take_line(context.rt, context.alloc, &mut newcomer.own, bytes)?;
         self.input.skip(taken);
         Ok(Step::Done)
     }
@@ -305,7 +325,11 @@ impl<B: BusBrand, M: Mailbox> Session<B, M> {
     pub fn push_out<W: Wait>(&mut self, rt: &W)
         ensures { self.new ≡ record self.old { peer = client_written self.old.peer } }
     {
-        self.client.push_out(rt);
+        match &mut self.client {
+            Client::Newcomer(newcomer) => newcomer.own.push_out(rt),
+            Client::Peer(peer) => peer.push_out(rt),
+            Client::Arriving => {}
+        }
     }
 
     /// What the end of the client's bytes means here.
@@ -342,9 +366,9 @@ impl<B: BusBrand, M: Mailbox> Session<B, M> {
         ensures { EndsAny M.outbox_of self.peer result }
     {
         let Session { client, .. } = self;
-        match client.into_peer() {
-            Some(peer) => end(peer, &Context::unlimited(rt, alloc, bus), lists),
-            None => None,
-        }
+        let Client::Peer(peer) = client else {
+            return None;
+        };
+        end(peer, &Context::unlimited(rt, alloc, bus), lists)
     }
 }
