@@ -110,10 +110,10 @@ fn entries_of_two_connections(rt: HostRuntime) {
 fn programs_for_some_messages(rt: HostRuntime) {
     let alloc = rt.alloc();
     let mut table = new_table(&rt, alloc);
-    for (member, namespace) in [("d", "/a"), ("c", "/a"), ("c", "/a/b"), ("c", "/")] {
-        let asked = asked(&rt, alloc, member, namespace);
-        let _ = attach(&rt, alloc, &mut table, asked);
-    }
+    let _ = attach(&rt, alloc, &mut table, asked(&rt, alloc, "d", "/a"));
+    let _ = attach(&rt, alloc, &mut table, asked(&rt, alloc, "c", "/a"));
+    let _ = attach(&rt, alloc, &mut table, asked(&rt, alloc, "c", "/a/b"));
+    let _ = attach(&rt, alloc, &mut table, asked(&rt, alloc, "c", "/"));
     let _ = attach(&rt, alloc, &mut table, AskedTexts::none());
     expect_offered(&rt, alloc, &table, &[2, 4, 5]);
     forget(table);
