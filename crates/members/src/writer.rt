@@ -4,7 +4,7 @@ use crate::unsent::Unsent;
 use crate::worker_handle::WorkerHandle;
 use endpoints::Link;
 use mio::Token;
-use outbox::{Outbox, ROOM, Taker};
+use outbox::{Outbox, Taker};
 use sole_writer::{Line, Stand};
 use std::alloc::{AllocError, Global};
 use std::io;
@@ -13,6 +13,9 @@ use std::sync::{Arc, Wait};
 
 /// How many writes one call makes at most, so that a thread doesn't go on writing what others put.
 const WRITES: u32 = 64;
+
+/// No more messages than this wait in any outbox.
+const MOST_WAITING: u32 = 1 << 23;
 
 /// The taker at an outbox, the bytes that it took and hasn't written, and the socket. What was written to the socket is a
 /// beginning of what was taken.
@@ -54,9 +57,10 @@ impl Writer {
         self.unsent.clear();
     }
 
-    /// Takes messages as far as there is room for them.
+    /// Takes messages as far as there is room for them. After a failure there is room for all: what waits in an outbox that a
+    /// sender still has a seat at would take memory as long as that sender is there.
     fn fill<R: Wait>(&mut self, rt: &R) {
-        for _ in 0..ROOM {
+        for _ in 0..MOST_WAITING {
             if !self.unsent.is_open() {
                 return;
             }

@@ -15,3 +15,4 @@ pub mod StampedMessages
 pub mod HeaderArrays
 pub mod AllKept
 pub mod Dicts
+pub mod BusNames

@@ -19,8 +19,12 @@ pub(crate) fn align(bytes: &mut Vec<u8>, alignment: usize) -> Result<(), AllocEr
     requires { 0 < alignment × alignment ≤ 8 }
     ensures { Appends result bytes.old.items bytes.new.items (zeros (padding alignment (length bytes.old.items))) }
 {
+    let missing = padding(alignment, bytes.len());
+    if missing == 0 {
+        return Ok(());
+    }
     let zeros = [0; 8];
-    bytes.extend_from_slice(&zeros[..padding(alignment, bytes.len())])
+    bytes.extend_from_slice(&zeros[..missing])
 }
 
 /// The four low bytes of a number. Only the lengths of messages above the limits need more.

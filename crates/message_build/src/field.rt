@@ -6,9 +6,10 @@ ghost use Rattle.message_value.specs.Fits.{max_array_len};
 ghost use Rattle.message_value.specs.Spelling.{value_bytes};
 ghost use Rattle.message_value.specs.Value.{text};
 ghost use Rattle.signature.specs.DataType.{basic};
+ghost use Rattle.signature.specs.Name.{is_bus_name};
 ghost use Rattle.message_view.specs.Spelling.{field_bytes};
 ghost use Rattle.message_build.specs.Growing.{Appends, Ends};
-ghost use Rattle.message_build.specs.HeaderFields.{field_of, is_open_path, is_allowed, may_be, are_allowed};
+ghost use Rattle.message_build.specs.HeaderFields.{field_of, is_open_interface, is_open_path, is_allowed, may_be, are_allowed};
 
 use crate::appending::{align, push_number, push_signature, push_string};
 use message_value::{Order, padding};
@@ -19,6 +20,12 @@ const LOCAL_PATH: &str = "/org/freedesktop/DBus/Local";
 
 const LOCAL_INTERFACE: &str = "org.freedesktop.DBus.Local";
 
+/// The name of a bus, and its interface; and its path (D-Bus Specification, "Message Bus Messages"). Most messages that are built have
+/// them, so they are compared before any name is looked at letter by letter.
+const BUS_NAME: &str = "org.freedesktop.DBus";
+
+const BUS_PATH: &str = "/org/freedesktop/DBus";
+
 /// The longest array.
 pub(crate) const MAX_ARRAY_LEN: usize = 67108864;
 
@@ -27,10 +34,27 @@ const MAX_TEXT_LEN: usize = u32::MAX as usize;
 
 /// Whether a message may have this path: it is an object path, but not the one that only a connection's own library may
 /// use.
+#[tactic(auto, using(crate::proofs::BusNames::path_or_bus))]
 fn is_open_path(path: &str) -> bool
     ensures { result ≡ is_open_path path.now }
 {
-    check_path(path) && path != LOCAL_PATH && path.len() <= MAX_TEXT_LEN
+    path == BUS_PATH || check_path(path) && path != LOCAL_PATH && path.len() <= MAX_TEXT_LEN
+}
+
+/// Whether a message may have this interface: it is one, but not the one that only a connection's own library may use.
+#[tactic(auto, using(crate::proofs::BusNames::interface_or_bus))]
+fn is_open_interface(interface: &str) -> bool
+    ensures { result ≡ is_open_interface interface.now }
+{
+    interface == BUS_NAME || check_interface(interface) && interface != LOCAL_INTERFACE
+}
+
+/// Whether it is the name of a connection, or of the bus.
+#[tactic(auto, using(crate::proofs::BusNames::name_or_bus))]
+fn is_bus_name(name: &str) -> bool
+    ensures { result ≡ is_bus_name name.now }
+{
+    name == BUS_NAME || check_bus_name(name)
 }
 
 /// Where a text ends with its zero byte, or None where it is longer than an array may be.
@@ -65,11 +89,11 @@ impl HeaderField<'_> {
     {
         match self {
             HeaderField::Path(text) => is_open_path(text),
-            HeaderField::Interface(text) => check_interface(text) && text != LOCAL_INTERFACE,
+            HeaderField::Interface(text) => is_open_interface(text),
             HeaderField::Member(text) => check_member(text),
             HeaderField::ErrorName(text) => check_interface(text),
             HeaderField::ReplySerial(serial) => serial != 0,
-            HeaderField::Destination(text) | HeaderField::Sender(text) => check_bus_name(text),
+            HeaderField::Destination(text) | HeaderField::Sender(text) => is_bus_name(text),
             HeaderField::Signature(text) => Signature::read(text).is_ok(),
         }
     }

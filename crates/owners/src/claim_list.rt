@@ -87,13 +87,13 @@ fn put_flagged(staying: &mut IndexSet<SlotClaim>, claims: &[SlotClaim], flagged:
     }
 }
 
-/// The second set takes the place of the first, which is cleared.
+/// The second set takes the place of the first, which is emptied claim by claim: to clear it would write over all its room.
 fn exchange(claims: &mut IndexSet<SlotClaim>, cleared: &mut IndexSet<SlotClaim>)
     ensures claims { claims.new ≡ cleared.old }
     ensures empty { IsEmpty cleared.new }
     ensures room { length claims.old.keys + spare claims.old ≤ spare cleared.new }
 {
-    claims.clear();
+    claims.truncate(0);
     mem::swap(claims, cleared);
 }
 

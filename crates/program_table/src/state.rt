@@ -174,8 +174,8 @@ impl<M: Handle> BusState<M> {
         }
     }
 
-    /// Does a command that is accepted.
-    fn perform(&mut self, command: &Command<M>) -> Result<(), AllocError>
+    /// Does a command that is accepted. Where a share of its mailbox, rule or program is refused for memory, the state is as it was.
+    pub fn perform(&mut self, command: &Command<M>) -> Result<(), AllocError>
         requires { is_accepted self.old command.now ≡ true }
         ensures done { MatchResult result (λ _. self.new ≡ effect self.old command.now) (λ _. self.new ≡ self.old) }
         ensures memory { IfErr result (λ _. is_sharing command.now ≡ true) }

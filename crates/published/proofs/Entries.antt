@@ -1,12 +1,12 @@
 -- The next entry of a history.
-use Rattle.std.proofs.Common.{◌≡◌, ◌+◌, List, [], ◌∷◌, ◌++◌, length, ap, sym, ◌∙◌, arith, length-append}
+use Rattle.std.proofs.Common.{◌≡◌, ◌+◌, true, List, [], ◌∷◌, ◌++◌, length, ap, sym, subst, ◌∙◌, arith, length-append}
 use mathlib.Core.List.{IsPrefix}
 use Rattle.program_table.specs.declared.command.Command.{Command}
 use Rattle.program_table.specs.State.{State}
-use Rattle.program_table.specs.Does.{next_of}
-use Rattle.program_table.specs.History.{after}
+use Rattle.program_table.specs.Does.{is_accepted, next_of}
+use Rattle.program_table.specs.History.{after, IsHistory}
 use Rattle.published.proofs.Fronts.{prefix_shorter, prefix_whole}
-use Rattle.published.proofs.Histories.{after-push}
+use Rattle.published.proofs.Histories.{after-push, history-last}
 
 module _ {M : Type 0} where
   -- a history that ends with a command, is one command longer than s and begins with it, is s with that command
@@ -21,3 +21,9 @@ module _ {M : Type 0} where
   -- the state after it
   pub after_next : (s e : List (Command M)) (c : Command M) (t u : State M) → s ++ c ∷ [] ≡ e → t ≡ after s → u ≡ next_of t c → u ≡ after e
   after_next s e c t u is at led = led ∙ ap (λ (x : State M). next_of x c) at ∙ sym (after-push s c) ∙ ap after is
+
+  -- the command was accepted in the state before it
+  pub last_accepted : (s e : List (Command M)) (c : Command M) (t : State M) → s ++ c ∷ [] ≡ e → IsHistory e → t ≡ after s → is_accepted t c ≡ true
+  last_accepted s e c t is whole at =
+      let here : IsHistory (s ++ c ∷ []) = subst (λ (l : List (Command M)). IsHistory l) (sym is) whole in
+      subst (λ (x : State M). is_accepted x c ≡ true) (sym at) (history-last s c here)

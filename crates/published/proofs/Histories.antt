@@ -42,6 +42,14 @@ module _ {M : Type 0} where
   pub history-push : (l : List (Command M)) (c : Command M) → IsHistory l → is_accepted (after l) c ≡ true → IsHistory (l ++ c ∷ [])
   history-push l c h a = accepted-push opening l c h a
 
+  last-accepted : (s : State M) (l : List (Command M)) (c : Command M) → are_accepted s (l ++ c ∷ []) ≡ true → is_accepted (fold next_of s l) c ≡ true
+  last-accepted s [] c h = (and_parts (is_accepted s c) true h).0
+  last-accepted s (x ∷ xs) c h = last-accepted (next_of s x) xs c (and_parts (is_accepted s x) (are_accepted (next_of s x) (xs ++ c ∷ [])) h).1
+
+  -- the last command of a history was accepted
+  pub history-last : (l : List (Command M)) (c : Command M) → IsHistory (l ++ c ∷ []) → is_accepted (after l) c ≡ true
+  history-last l c h = last-accepted opening l c h
+
   effect-commands : (s : State M) (c : Command M) → (effect s c).commands ≡ s.commands + 1
   effect-commands s (Limit most) = refl
   effect-commands s (Connect m) = refl

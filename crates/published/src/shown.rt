@@ -149,7 +149,7 @@ impl<B: BusBrand, M: Handle> Absorb<Entry<B, M>> for Shown<B, M> {
             return Err(AllocError);
         }
         self.front.begins(&entry.front);
-        self.state.apply(command)?;
+        self.state.perform(command)?;
         self.front = entry.front.again();
         Ok(())
     }
