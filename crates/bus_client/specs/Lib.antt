@@ -1,2 +1,3 @@
 pub mod Talk
+pub mod Descriptors
 pub mod Errors

@@ -1,13 +1,15 @@
 // A client of a bus.
 
 use crate::calls::{BUS_NAME, Call};
+use crate::descriptors::without_descriptors;
 use crate::error::ClientError;
 use crate::lines::{log_in, read_some};
 use crate::refusal::Refusal;
 use crate::strings::{first_string, match_rules_of, strings_of};
+use crate::transport::Transport;
 use bytes::Bytes;
-use frames::Frames;
-use message_view::{Kind, View};
+use frames::{FrameError, Frames};
+use message_view::{Kind, MsgError, View};
 use std::alloc::Global;
 use std::collections::VecDeque;
 use std::io::{Read, Write};
@@ -61,8 +63,12 @@ impl<S: Read + Write + Drop> Client<S> {
     /// # Errors
     ///
     /// Each of `ClientError`.
-    pub fn open(alloc: Global, mut stream: S) -> Result<Client<S>, ClientError> {
-        let unread = log_in(alloc, &mut stream)?;
+    pub fn open(
+        alloc: Global,
+        mut stream: S,
+        transport: Transport,
+    ) -> Result<Client<S>, ClientError> {
+        let unread = log_in(alloc, &mut stream, transport)?;
         let mut frames = Frames::new(alloc);
         frames.feed(unread.as_slice())?;
         let mut client = Client {
@@ -166,7 +172,8 @@ impl<S: Read + Write + Drop> Client<S> {
         &mut self.stream
     }
 
-    /// The next message, first those that came while an answer was waited for.
+    /// The next message, first those that came while an answer was waited for. None has file descriptors: their number is 0
+    /// in one that was sent with some.
     ///
     /// # Errors
     ///
@@ -178,10 +185,24 @@ impl<S: Read + Write + Drop> Client<S> {
         }
     }
 
+    /// The next message of the bytes that were read, if it is all there.
+    fn next_whole(&mut self) -> Result<Option<Bytes>, ClientError> {
+        match self.frames.next() {
+            // The stream is read without its descriptors, so the message has none here.
+            Err(FrameError::Message(MsgError::UnixFds)) => {
+                let unread = without_descriptors(self.alloc, self.frames.unread())?;
+                self.frames = Frames::new(self.alloc);
+                self.frames.feed(unread.as_slice())?;
+                Ok(self.frames.next()?)
+            }
+            next => Ok(next?),
+        }
+    }
+
     /// The next message of the stream.
     fn next_read(&mut self) -> Result<Bytes, ClientError> {
         for _ in 0..u64::MAX {
-            if let Some(message) = self.frames.next()? {
+            if let Some(message) = self.next_whole()? {
                 return Ok(message);
             }
             let mut block = [0u8; READ_LEN];

@@ -4,6 +4,7 @@ ghost use Rattle.std.specs.Prelude.{◌≤◌, ◌<◌, IfOk, IfSome, length};
 
 use crate::error::ClientError;
 use crate::talk::{Answer, Say, Stage};
+use crate::transport::Transport;
 use bytes::BytesMut;
 use std::alloc::Global;
 use std::io::{ErrorKind, Read, Write};
@@ -15,7 +16,7 @@ const MAX_LINE_LEN: usize = 1024;
 const TALK_LEN: usize = 512;
 
 /// How many lines a client says at most, BEGIN not counted.
-const MAX_LINES: usize = 4;
+const MAX_LINES: usize = 5;
 
 /// One read, which is tried again where a signal came between.
 ///
@@ -63,8 +64,9 @@ fn next_answer<S: Read>(stream: &mut S, unread: &mut BytesMut) -> Result<Answer,
     Err(ClientError::Auth)
 }
 
-/// Talks with a server until messages begin: EXTERNAL without a name, and ANONYMOUS where that is refused. It gives the
-/// bytes that came after the server's last line.
+/// Talks with a server until messages begin: EXTERNAL without a name, and ANONYMOUS if that is refused; then that the
+/// client takes file descriptors, whether the server knows them or not. It gives the bytes that came after the server's
+/// last line.
 ///
 /// # Errors
 ///
@@ -72,13 +74,14 @@ fn next_answer<S: Read>(stream: &mut S, unread: &mut BytesMut) -> Result<Answer,
 pub(crate) fn log_in<S: Read + Write>(
     alloc: Global,
     stream: &mut S,
+    transport: Transport,
 ) -> Result<BytesMut, ClientError> {
     let mut unread = BytesMut::new(alloc);
     let mut stage = Stage::External;
     stream.write_all(b"\0")?;
     for _ in 0..MAX_LINES {
         stream.write_all(stage.line().as_bytes())?;
-        match stage.after(next_answer(stream, &mut unread)?) {
+        match stage.after(next_answer(stream, &mut unread)?, transport) {
             Say::Line(next) => stage = next,
             Say::Begin => {
                 stream.write_all(b"BEGIN\r\n")?;

@@ -1,7 +1,9 @@
 // What a client says in an authentication talk.
 
-ghost use Rattle.std.specs.Prelude.{◌≡◌, ◌<◌, ◌↔◌};
-ghost use Rattle.bus_client.specs.Talk.{lines_left};
+ghost use Rattle.std.specs.Prelude.{◌≡◌, ◌<◌, ◌↔◌, true};
+ghost use Rattle.bus_client.specs.Talk.{lines_left, may_ask, may_begin};
+
+use crate::transport::Transport;
 
 /// What the client has said last.
 #[derive(Clone, Copy, Debug, PartialEq, Eq)]
@@ -14,6 +16,8 @@ pub enum Stage {
     Anonymous,
     /// The same, and that it has no more to say of that.
     AnonymousData,
+    /// That it takes messages with file descriptors. A server sends it none of them otherwise, or ends the connection.
+    Descriptors,
 }
 
 /// A line of the server (D-Bus Specification, "Authentication Protocol").
@@ -23,6 +27,7 @@ pub enum Answer {
     Data,
     Rejected,
     Error,
+    Agree,
     Other,
 }
 
@@ -56,6 +61,8 @@ impl Answer {
             Answer::Rejected
         } else if begins_with(line, b"ERROR") {
             Answer::Error
+        } else if begins_with(line, b"AGREE_UNIX_FD") {
+            Answer::Agree
         } else {
             Answer::Other
         }
@@ -69,18 +76,26 @@ impl Stage {
             Stage::External => "AUTH EXTERNAL\r\n",
             Stage::Anonymous => "AUTH ANONYMOUS\r\n",
             Stage::ExternalData | Stage::AnonymousData => "DATA\r\n",
+            Stage::Descriptors => "NEGOTIATE_UNIX_FD\r\n",
         }
     }
 
     /// What a client does at an answer of the server's.
-    pub fn after(self, answer: Answer) -> Say
+    pub fn after(self, answer: Answer, transport: Transport) -> Say
         // Each line of the client's brings the talk nearer to its end.
         ensures nearer { (next : Stage) → result ≡ Say.Line next → lines_left next < lines_left self }
-        // A client begins where the server has accepted it, and nowhere else.
-        ensures begins { (result ≡ Say.Begin) ↔ (answer ≡ Answer.Ok) }
+        // A client asks for descriptors exactly if the server has accepted it and the socket is a Unix socket, which passes them.
+        ensures asks { (result ≡ Say.Line Stage.Descriptors) ↔ (may_ask transport self answer ≡ true) }
+        // A client begins exactly if the server has accepted it and has answered the question for descriptors, if one was asked.
+        ensures begins { (result ≡ Say.Begin) ↔ (may_begin transport self answer ≡ true) }
     {
         match (self, answer) {
-            (_, Answer::Ok) => Say::Begin,
+            (Stage::Descriptors, Answer::Agree | Answer::Error) => Say::Begin,
+            (Stage::Descriptors, _) => Say::Nothing,
+            (_, Answer::Ok) => match transport {
+                Transport::Unix => Say::Line(Stage::Descriptors),
+                Transport::Tcp => Say::Begin,
+            },
             (Stage::External, Answer::Data) => Say::Line(Stage::ExternalData),
             (Stage::Anonymous, Answer::Data) => Say::Line(Stage::AnonymousData),
             (Stage::External | Stage::ExternalData, Answer::Rejected | Answer::Error) => {

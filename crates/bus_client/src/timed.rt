@@ -1,5 +1,6 @@
 // A socket that waits only for a limited time.
 
+use crate::transport::Transport;
 use endpoints::Link;
 use std::io;
 use std::io::{ErrorKind, Read, Write};
@@ -35,6 +36,14 @@ impl<'a, R: Clock> Timed<'a, R> {
             len: Duration::from_secs(ANSWER_SECONDS),
         });
         Ok(Timed { rt, link, limit })
+    }
+
+    /// What the socket's connection goes by.
+    pub fn transport(&self) -> Transport {
+        match &self.link {
+            Link::Unix(_) => Transport::Unix,
+            Link::Tcp(_) => Transport::Tcp,
+        }
     }
 
     /// From now on it waits as long as nothing comes.
