@@ -57,7 +57,7 @@ fn is_sent_by(sender: Option<&str>, name: &str, owns: bool) -> bool
 }
 
 /// Whether a condition holds of a message. `owns` says whether the message's sender owns the name that it asks for.
-pub(crate) fn holds(condition: &Condition, view: &View<'_>, owns: bool) -> bool
+pub fn holds(condition: &Condition, view: &View<'_>, owns: bool) -> bool
     ensures { (m : Message) → Valid view.now m → (IsTrue result ↔ ConditionHolds condition.now m (λ name. owns)) }
 {
     match condition {

@@ -1,6 +1,6 @@
 //! Why a match rule doesn't hold of a message, in lines for people. The layer above uses that `push_reasons` writes a line
 //! for each condition that doesn't hold, and one where the message is to somebody and the rule doesn't eavesdrop, and
-//! that there is none exactly where the rule holds.
+//! that there is none exactly where the rule holds; monitors use what `holds` ensures of one condition.
 #![tactic(auto)]
 
 mod compared;
@@ -13,4 +13,5 @@ mod reason;
 mod shown;
 
 pub use explaining::push_reasons;
+pub use holding::holds;
 pub use laws::no_reason_where_it_holds;
