@@ -30,7 +30,7 @@ mod words;
 pub use error::{Fault, FaultAt, FilterError};
 pub use filter::Filter;
 pub use integer::Integer;
-pub use laws::one_reading;
+pub use laws::{one_reading, text_reads_back};
 pub use match_key::{ArgNumber, KindName};
 pub use test::{
     ArgType, Equality, Field, Flag, NumberRelation, NumberSource, Scope, Test, TextField,
