@@ -1,6 +1,5 @@
 -- Each type of integer in a message of type `B`: from its way on the integer is compared.
-use Rattle.std.proofs.Common.{◌≡◌, ℕ, ◌-◌, ◌%◌, ◌^◌, ◌<◌, List, ◌++◌, refl, sym, ap, ◌∙◌, arith, subst}
-use Rattle.std.proofs.lemmas.List.{append_assoc}
+use Rattle.std.proofs.Common.{◌≡◌, ℕ, ◌-◌, ◌%◌, ◌^◌, ◌<◌, List, refl, sym, ap, arith, subst}
 use Rattle.std.specs.Int.{byte_at, w16, w32, w64}
 use Rattle.bpf_code.specs.declared.instruction.Ins.{Ins}
 use Rattle.bpf_code.specs.declared.operation.Test.{Test}
@@ -17,8 +16,8 @@ use Rattle.filter_compile.specs.ArgCode.{bits_of, way, code_of, Sized, littles, 
 use Rattle.filter_compile.specs.Entered.{Entered}
 use Rattle.filter_compile.specs.Holds.{integer_of}
 use Rattle.filter_compile.specs.Pieces.{indexed_test}
-use Rattle.filter_compile.specs.declared.arg_number.IntegerType.{IntegerType}
-use Rattle.filter_compile.specs.declared.arg_number.IntegerType.TheVariants.{Byte, Boolean, Int16, Uint16, Int32, Uint32, Int64, Uint64}
+use Rattle.filter_compile.specs.declared.integer_type.IntegerType.{IntegerType}
+use Rattle.filter_compile.specs.declared.integer_type.IntegerType.TheVariants.{Byte, Boolean, Int16, Uint16, Int32, Uint32, Int64, Uint64}
 use Rattle.filter_compile.specs.declared.exits.Exits.{Exits}
 use Rattle.filter_compile.proofs.ArgOrders.{upon_littles, little_decides_one, upon_bigs, grows_bigs, big_decides_one, big_decides_two, big_decides_four, big_decides_eight}
 use Rattle.filter_compile.proofs.ArgSizes.{little_one, big_size, big_eight, little_shared, big_shared_four, big_shared_two, big_shared_eight}
@@ -28,19 +27,19 @@ use Rattle.filter_compile.proofs.Entries.{Decides, decides_on}
 use Rattle.filter_compile.proofs.Ladders.{Ordered}
 use Rattle.filter_compile.proofs.NumberLoads.{big_eight_high, big_eight_low, big_four, big_two, big_top}
 use Rattle.filter_compile.proofs.SharedBits.{Share}
-use Rattle.filter_compile.proofs.TwoExits.{Tests}
+use Rattle.filter_compile.proofs.TwoExits.{Before, joined, Tests}
 use Rattle.filter_compile.proofs.TypeEntries.{from_unsigned}
 use Rattle.filter_compile.proofs.TypeIntegers.{Compared, IsOrder}
 
-module _ (image : List ℕ) (place : ℕ) (base : List Ins) (exits : Exits) (test : Test) (value : Integer) (rest m : List Ins) (is : rest ≡ m ++ (littles test (bits_of value) exits base).code) where
+module _ (image : List ℕ) (place : ℕ) (base : List Ins) (exits : Exits) (test : Test) (value : Integer) (rest : List Ins) (above : Before (littles test (bits_of value) exits base).code rest) where
   abbrev Decided : List Ins → ℕ → Type 0 → Type 0
   Decided code entry C = Decides image (At place) base exits code entry C
 
-  abbrev pub lower : (middle : List Ins) × ((littles test (bits_of value) exits base).code ≡ middle ++ base)
+  abbrev pub lower : Before base (littles test (bits_of value) exits base).code
   lower = upon_littles image place base exits test (bits_of value)
 
-  pub over : rest ≡ (m ++ lower.0) ++ base
-  over = is ∙ ap (λ (code : List Ins). m ++ code) lower.1 ∙ sym (append_assoc m lower.0 base)
+  pub over : Before base rest
+  over = joined base (littles test (bits_of value) exits base).code rest above lower
 
   -- one byte is compared as in a message of type `l`
   abbrev pub one : ℕ
@@ -49,11 +48,11 @@ module _ (image : List ℕ) (place : ℕ) (base : List Ins) (exits : Exits) (tes
   abbrev pub words : Sized
   words = bigs test (bits_of value) exits one rest
 
-  abbrev pub up : (middle : List Ins) × (words.code ≡ middle ++ base)
-  up = upon_bigs image place base exits test (bits_of value) one rest (m ++ lower.0) over
+  abbrev pub up : Before base words.code
+  up = upon_bigs image place base exits test (bits_of value) one rest over
 
-  pub grown : (more : List Ins) × (words.code ≡ more ++ rest)
-  grown = grows_bigs image place base exits test (bits_of value) one rest (m ++ lower.0) over
+  pub grown : Before rest words.code
+  grown = grows_bigs image place base exits test (bits_of value) one rest over
 
   abbrev pub after : Entered
   after = eight image place base exits test value Big words up
@@ -70,17 +69,17 @@ module _ (image : List ℕ) (place : ℕ) (base : List Ins) (exits : Exits) (tes
   from_one : (C : Type 0) → Tests image (At place) C (ladder test (bits_of value) 0) → Decided words.code words.sizes.one C
   from_one C t =
       let low = little_decides_one image place base exits test (bits_of value) C t in
-      big_decides_one image place base exits test (bits_of value) one rest (m ++ lower.0) over C
-      (decides_on image (At place) base exits (littles test (bits_of value) exits base).code m rest one C is low)
+      big_decides_one image place base exits test (bits_of value) one rest over C
+      (decides_on image (At place) base exits (littles test (bits_of value) exits base).code rest one C above low)
 
   from_two : (C : Type 0) → Tests image (At place) C (indexed_test widths.Half 0 test (bits_of value % 2 ^ 16)) → Decided words.code words.sizes.two C
-  from_two C t = big_decides_two image place base exits test (bits_of value) one rest (m ++ lower.0) over C t
+  from_two C t = big_decides_two image place base exits test (bits_of value) one rest over C t
 
   from_four : (C : Type 0) → Tests image (At place) C (indexed_test widths.Word 0 test (bits_of value % 2 ^ 32)) → Decided words.code words.sizes.four C
-  from_four C t = big_decides_four image place base exits test (bits_of value) one rest (m ++ lower.0) over C t
+  from_four C t = big_decides_four image place base exits test (bits_of value) one rest over C t
 
   from_eight : (C : Type 0) → Tests image (At place) C (wide test (bits_of value)) → Decided words.code words.sizes.eight C
-  from_eight C t = big_decides_eight image place base exits test (bits_of value) one rest (m ++ lower.0) over C t
+  from_eight C t = big_decides_eight image place base exits test (bits_of value) one rest over C t
 
   -- ---- orders
 

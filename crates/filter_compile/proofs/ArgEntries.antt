@@ -1,5 +1,5 @@
 -- The types are told apart, in either order, and the exits are reached by two jumps.
-use Rattle.std.proofs.Common.{◌≡◌, ℕ, ◌-◌, List, [], ◌∷◌, ◌++◌, length, Some, ◌⊎◌, refl, sym, ap, ◌∙◌, arith, subst}
+use Rattle.std.proofs.Common.{◌≡◌, ℕ, List, [], ◌∷◌, ◌++◌, length, Some, ◌⊎◌, refl, sym, ap, ◌∙◌, arith, subst}
 use Rattle.std.proofs.lemmas.Bool.{eqb-true, eq-eqb}
 use Rattle.std.proofs.lemmas.List.{length-append, nil_from_length}
 use Rattle.bpf_code.specs.Loads.{load_word}
@@ -17,13 +17,13 @@ use Rattle.rule_compile.specs.Code.{image_word, branch, index_from_a}
 use Rattle.summary.specs.Layout.{order_place, argument_place}
 use Rattle.filter.specs.declared.integer.Integer.{Integer}
 use Rattle.filter_compile.specs.ArgCode.{way, code_of, dispatch, fails_jump, jumps, near_exits}
-use Rattle.filter_compile.specs.declared.arg_number.IntegerType.{IntegerType}
+use Rattle.filter_compile.specs.declared.integer_type.IntegerType.{IntegerType}
 use Rattle.filter_compile.specs.Entered.{Entered}
-use Rattle.filter_compile.specs.Pieces.{index_start, word_test}
+use Rattle.filter_compile.specs.Pieces.{over, index_start, word_test}
 use Rattle.filter_compile.specs.declared.exits.Exits.{Exits}
 use Rattle.filter_compile.proofs.Entries.{Decides, decides_on, decides_test}
 use Rattle.filter_compile.proofs.Runs.{runs_jump}
-use Rattle.filter_compile.proofs.TwoExits.{LeadsAt, leads_here, Tests, tests_same, tests_word}
+use Rattle.filter_compile.proofs.TwoExits.{Before, LeadsAt, leads_here, leads_on, over_front, Tests, tests_same, tests_word}
 
 -- ---- the types
 
@@ -37,13 +37,13 @@ abbrev pub NoneOf : ℕ → List (IntegerType × ℕ) → Type 0
 NoneOf code [] = Unit {0}
 NoneOf code (t ∷ ts) = (code ≡ code_of t.0 → ⊥) × NoneOf code ts
 
-pub dispatch_grows : (n : ℕ) (test : Test) (value : Integer) (exits : Exits) (ts : List (IntegerType × ℕ)) (other : Entered) → (middle : List Ins) × ((dispatch n test value exits ts other).code ≡ middle ++ other.code)
+pub dispatch_grows : (n : ℕ) (test : Test) (value : Integer) (exits : Exits) (ts : List (IntegerType × ℕ)) (other : Entered) → Before other.code (dispatch n test value exits ts other).code
 dispatch_grows n test value exits [] other = ([], refl)
 dispatch_grows n test value exits (t ∷ ts) other =
     let more = dispatch_grows n test value exits ts other in
     let later = dispatch n test value exits ts other in
     let ways : Exits = record { holds = way test (code_of t.0) value exits t.1; fails = later.entry } in
-    let jump = branch Equal (code_of t.0) (length later.code - ways.holds) (length later.code - ways.fails) in
+    let jump = branch Equal (code_of t.0) (over later.code ways.holds) (over later.code ways.fails) in
     (image_word (argument_place n) ∷ jump ∷ more.0, ap (λ (code : List Ins). image_word (argument_place n) ∷ jump ∷ code) more.1)
 
 module _ (image : List ℕ) (place : ℕ) (base : List Ins) (near : Exits) (F : Type 0) where
@@ -54,21 +54,20 @@ module _ (image : List ℕ) (place : ℕ) (base : List Ins) (near : Exits) (F : 
   dispatch_decides n code test value exits [] other loads each none = none tt
   dispatch_decides n code test value exits (t ∷ ts) other loads each none =
       let later = dispatch n test value exits ts other in
-      let g = dispatch_grows n test value exits ts other in
       let key = code_of t.0 in
       let entry = way test key value exits t.1 in
       decides_test image (At place) base near later.code (code ≡ key) F (word_test (argument_place n) Equal key) (record { holds = entry; fails = later.entry })
       (tests_same image (At place) _ (code ≡ key) (word_test (argument_place n) Equal key) (eqb-true code key, eq-eqb code key) (tests_word image (At place) (argument_place n) code Equal key loads))
-      (λ is. decides_on image (At place) base near other.code g.0 later.code entry F g.1 (each.0 is))
+      (λ is. decides_on image (At place) base near other.code later.code entry F (dispatch_grows n test value exits ts other) (each.0 is))
       (λ isnt. dispatch_decides n code test value exits ts other loads each.1 (λ others. none (isnt, others)))
 
   -- ---- the orders
 
-  pub orders_decide : (order : Order) (little big : Entered) (middle : List Ins) → load_word image order_place ≡ Some (order_byte order) → big.code ≡ middle ++ little.code → (order ≡ Little → Decided little.code little.entry) → (order ≡ Big → Decided big.code big.entry) → Decided (word_test order_place Equal 108 (record { holds = little.entry; fails = big.entry }) big.code) (length (word_test order_place Equal 108 (record { holds = little.entry; fails = big.entry }) big.code))
-  orders_decide order little big middle loads is first second =
+  pub orders_decide : (order : Order) (little big : Entered) → load_word image order_place ≡ Some (order_byte order) → Before little.code big.code → (order ≡ Little → Decided little.code little.entry) → (order ≡ Big → Decided big.code big.entry) → Decided (word_test order_place Equal 108 (record { holds = little.entry; fails = big.entry }) big.code) (length (word_test order_place Equal 108 (record { holds = little.entry; fails = big.entry }) big.code))
+  orders_decide order little big loads before first second =
       decides_test image (At place) base near big.code (order_byte order ≡ 108) F (word_test order_place Equal 108) (record { holds = little.entry; fails = big.entry })
       (tests_same image (At place) _ (order_byte order ≡ 108) (word_test order_place Equal 108) (eqb-true (order_byte order) 108, eq-eqb (order_byte order) 108) (tests_word image (At place) order_place (order_byte order) Equal 108 loads))
-      (λ e. decides_on image (At place) base near little.code middle big.code little.entry F is (first (is_little order e)))
+      (λ e. decides_on image (At place) base near little.code big.code little.entry F before (first (is_little order e)))
       (λ n. second (is_big order n))
     where
       is_little : (order : Order) → order_byte order ≡ 108 → order ≡ Little
@@ -83,22 +82,21 @@ module _ (image : List ℕ) (place : ℕ) (base : List Ins) (near : Exits) (F : 
 
 pub jumps_hold : (image : List ℕ) (X : ℕ → Type 0) (exits : Exits) (rest : List Ins) (v : ℕ) → LeadsAt rest exits.holds image Any v → LeadsAt (jumps exits rest) (near_exits exits rest).holds image X v
 jumps_hold image X exits rest v l =
-    let jump = jump_over (length rest - exits.fails) in
+    let jump = jump_over (over rest exits.fails) in
     let other = fails_jump exits rest in
-    let e : length (jump ∷ l.front) ≡ length other - exits.holds = omega (arith, ap length l.is, length-append l.front l.exit, l.len) in
-    let same : other ≡ (jump ∷ l.front) ++ l.exit = ap (λ (code : List Ins). jump ∷ code) l.is in
-    leads_here (jumps exits rest) image X v (λ a x _. subst (λ (code : List Ins). RunsTo (jump_over (length other - exits.holds) ∷ code) image a x v) (sym same) (runs_jump (jump ∷ l.front) l.exit image (length other - exits.holds) a x v e (l.leads a x tt)))
+    let later : LeadsAt other exits.holds image Any v = leads_on other rest exits.holds image Any v (jump ∷ [], refl) l in
+    leads_here (jumps exits rest) image X v (λ a x _. subst (λ (code : List Ins). RunsTo (jump_over (over other exits.holds) ∷ code) image a x v) (sym later.is) (runs_jump later.front later.exit image (over other exits.holds) a x v (over_front other exits.holds image Any v a x later tt) (later.leads a x tt)))
 
 pub jumps_fail : (image : List ℕ) (X : ℕ → Type 0) (exits : Exits) (rest : List Ins) (v : ℕ) → LeadsAt rest exits.fails image Any v → LeadsAt (jumps exits rest) (near_exits exits rest).fails image X v
 jumps_fail image X exits rest v l =
     let other = fails_jump exits rest in
-    let e : length l.front ≡ length rest - exits.fails = omega (arith, ap length l.is, length-append l.front l.exit, l.len) in
+    let over_fails = over rest exits.fails in
     record {
-      front = jump_over (length other - exits.holds) ∷ [];
+      front = jump_over (over other exits.holds) ∷ [];
       exit = other;
       is = refl;
       len = refl;
-      leads = λ a x _. subst (λ (code : List Ins). RunsTo (jump_over (length rest - exits.fails) ∷ code) image a x v) (sym l.is) (runs_jump l.front l.exit image (length rest - exits.fails) a x v e (l.leads a x tt));
+      leads = λ a x _. subst (λ (code : List Ins). RunsTo (jump_over over_fails ∷ code) image a x v) (sym l.is) (runs_jump l.front l.exit image over_fails a x v (over_front rest exits.fails image Any v a x l tt) (l.leads a x tt));
     }
 
 -- from the first instruction on

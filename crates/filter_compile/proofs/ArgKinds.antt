@@ -1,5 +1,5 @@
 -- Each type of integer, in either byte order: from its way on the integer is compared.
-use Rattle.std.proofs.Common.{◌≡◌, ℕ, ◌%◌, ◌^◌, ◌<◌, ◌≤◌, List, ◌++◌, ◌↔◌, refl, sym, arith, subst}
+use Rattle.std.proofs.Common.{◌≡◌, ℕ, ◌%◌, ◌^◌, ◌<◌, ◌≤◌, List, ◌↔◌, refl, sym, arith, subst}
 use Rattle.std.specs.Int.{byte_at}
 use Rattle.bpf_code.specs.declared.instruction.Ins.{Ins}
 use Rattle.bpf_code.specs.declared.operation.Test.{Test}
@@ -13,8 +13,8 @@ use Rattle.filter.specs.declared.integer.Integer.{Integer}
 use Rattle.filter_compile.specs.ArgCode.{bits_of, way, code_of, Sized, littles, ladder}
 use Rattle.filter_compile.specs.Entered.{Entered}
 use Rattle.filter_compile.specs.Holds.{bits_of_code, integer_of}
-use Rattle.filter_compile.specs.declared.arg_number.IntegerType.{IntegerType}
-use Rattle.filter_compile.specs.declared.arg_number.IntegerType.TheVariants.{Byte, Boolean, Int16, Uint16, Int32, Uint32, Int64, Uint64}
+use Rattle.filter_compile.specs.declared.integer_type.IntegerType.{IntegerType}
+use Rattle.filter_compile.specs.declared.integer_type.IntegerType.TheVariants.{Byte, Boolean, Int16, Uint16, Int32, Uint32, Int64, Uint64}
 use Rattle.filter_compile.specs.declared.exits.Exits.{Exits}
 use Rattle.filter_compile.proofs.ArgOrders.{upon_littles, little_decides_one, little_decides_two, little_decides_four, little_decides_eight}
 use Rattle.filter_compile.proofs.ArgSizes.{little_one, little_two, little_four, little_eight, little_shared}
@@ -22,7 +22,7 @@ use Rattle.filter_compile.proofs.ArgTypes.{eight, type_entry, unsigned_type, sig
 use Rattle.filter_compile.proofs.Entries.{Decides}
 use Rattle.filter_compile.proofs.NumberLoads.{little_loads}
 use Rattle.filter_compile.proofs.SharedBits.{Share}
-use Rattle.filter_compile.proofs.TwoExits.{Tests}
+use Rattle.filter_compile.proofs.TwoExits.{Before, Tests}
 use Rattle.filter_compile.proofs.TypeIntegers.{Compared, IsOrder}
 
 -- the sign of a number by its highest byte
@@ -48,7 +48,7 @@ module _ (image : List ℕ) (place : ℕ) (base : List Ins) (exits : Exits) (tes
   abbrev pub s : Sized
   s = littles test (bits_of value) exits base
 
-  abbrev pub up : (middle : List Ins) × (s.code ≡ middle ++ base)
+  abbrev pub up : Before base s.code
   up = upon_littles image place base exits test (bits_of value)
 
   abbrev pub after : Entered

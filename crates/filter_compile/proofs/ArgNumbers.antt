@@ -1,8 +1,7 @@
 -- The piece that compares an argument's number with an integer.
-use Rattle.std.proofs.Common.{◌≡◌, ℕ, ◌+◌, ◌-◌, ◌^◌, ◌<◌, true, false, List, [], ◌∷◌, ◌++◌, length, Some, None, Option, ◌⊎◌, ◌↔◌, inl, inr, refl, sym, ap, ◌∙◌, arith, subst}
+use Rattle.std.proofs.Common.{◌≡◌, ℕ, ◌+◌, ◌^◌, ◌<◌, true, false, List, [], ◌∷◌, length, Some, None, Option, ◌⊎◌, ◌↔◌, inl, inr, refl, sym, ap, ◌∙◌, arith, subst}
 use Rattle.std.specs.Prelude.{IsSomeAnd}
 use Rattle.std.proofs.lemmas.Bool.{false≢true, cases_Bool, ne_eqb}
-use Rattle.std.proofs.lemmas.List.{append_assoc}
 use Rattle.signature.specs.DataType.{DataType, basic, variant, array, dict, struct}
 use Rattle.bpf_code.specs.Loads.{load_word}
 use Rattle.bpf_code.specs.declared.instruction.Ins.{Ins}
@@ -28,9 +27,10 @@ use Rattle.filter.specs.declared.test.NumberRelation.{NumberRelation}
 use Rattle.filter_compile.specs.ArgCode.{fails_jump, bits_of, way, code_of, Sized, littles, bigs, dispatch, unsigned_types, signed_types, typed, jumps, near_exits, compared, arg_number}
 use Rattle.filter_compile.specs.Entered.{Entered}
 use Rattle.filter_compile.specs.Holds.{Says, number_in, integer_in, integer_of, bits_of_code, NumberRelates, is_integer_code}
+use Rattle.filter_compile.specs.Pieces.{over}
 use Rattle.filter_compile.specs.TestCode.{exits_for, comparison_of, equality_of}
-use Rattle.filter_compile.specs.declared.arg_number.IntegerType.{IntegerType}
-use Rattle.filter_compile.specs.declared.arg_number.IntegerType.TheVariants.{Byte, Boolean, Int16, Uint16, Int32, Uint32, Int64, Uint64}
+use Rattle.filter_compile.specs.declared.integer_type.IntegerType.{IntegerType}
+use Rattle.filter_compile.specs.declared.integer_type.IntegerType.TheVariants.{Byte, Boolean, Int16, Uint16, Int32, Uint32, Int64, Uint64}
 use Rattle.filter_compile.specs.declared.exits.Exits.{Exits}
 use Rattle.filter_compile.proofs.ArgBigKinds.{up, grown, big_order, big_shares}
 use Rattle.filter_compile.proofs.ArgEntries.{NoneOf, dispatch_grows, dispatch_decides, orders_decide, tests_near}
@@ -39,13 +39,13 @@ use Rattle.filter_compile.proofs.ArgOrders.{upon_littles}
 use Rattle.filter_compile.proofs.ArgTypes.{eight, type_entry, upon_eight, grows_all, signs_are}
 use Rattle.filter_compile.proofs.ArgumentValues.{Laid, AtPlace, IsNumberCode, is_number}
 use Rattle.filter_compile.proofs.Entries.{Decides, decides_on, decides_same, decides_false}
-use Rattle.filter_compile.proofs.TwoExits.{Extends, Tests}
+use Rattle.filter_compile.proofs.TwoExits.{Before, joined, Extends, Tests}
 use Rattle.filter_compile.proofs.TypeEntries.{decides_says}
 use Rattle.filter_compile.proofs.TypeIntegers.{Compared, IsOrder, relation_says}
 
 -- ---- the types in a message of one order
 
-module _ (image : List ℕ) (place n : ℕ) (test : Test) (value : Integer) (base : List Ins) (near chosen : Exits) (o : Order) (s : Sized) (upon : (middle : List Ins) × (s.code ≡ middle ++ base)) where
+module _ (image : List ℕ) (place n : ℕ) (test : Test) (value : Integer) (base : List Ins) (near chosen : Exits) (o : Order) (s : Sized) (upon : Before base s.code) where
   abbrev pub after : Entered
   after = eight image place base chosen test value o s upon
 
@@ -70,17 +70,15 @@ module _ (image : List ℕ) (place n : ℕ) (test : Test) (value : Integer) (bas
       ap (λ (signed : Sized). dispatch n test value chosen (unsigned_types s.sizes) (dispatch n test value chosen (signed_types signed.sizes) (record { code = signed.code; entry = near.fails })))
       (signs_are image place base chosen test value o s upon)
 
-  later_grows : (middle : List Ins) × (later.code ≡ middle ++ after.code)
+  later_grows : Before after.code later.code
   unfolding later
   later_grows = dispatch_grows n test value chosen signed_list last
 
-  pub typed_grows : (middle : List Ins) × (whole.code ≡ middle ++ s.code)
+  pub typed_grows : Before s.code whole.code
   typed_grows =
-      let first = dispatch_grows n test value chosen (unsigned_types s.sizes) later in
-      let all = grows_all image place base chosen test value o s upon in (
-        first.0 ++ (later_grows.0 ++ all.0),
-        ap (λ (e : Entered). e.code) whole_is ∙ first.1 ∙ ap (λ (code : List Ins). first.0 ++ code) (later_grows.1 ∙ ap (λ (code : List Ins). later_grows.0 ++ code) all.1 ∙ sym (append_assoc later_grows.0 all.0 s.code)) ∙ sym (append_assoc first.0 (later_grows.0 ++ all.0) s.code),
-      )
+      let all = joined s.code after.code later.code later_grows (grows_all image place base chosen test value o s upon) in
+      subst (λ (e : Entered). Before s.code e.code) (sym whole_is)
+      (joined s.code later.code _ (dispatch_grows n test value chosen (unsigned_types s.sizes) later) all)
 
   module _ (F : Type 0) where
     abbrev Decided : List Ins → ℕ → Type 0
@@ -93,7 +91,7 @@ module _ (image : List ℕ) (place n : ℕ) (test : Test) (value : Integer) (bas
         (dispatch_decides image place base near F n code test value chosen (unsigned_types s.sizes) later loads (on Byte, (on Boolean, (on Uint16, (on Uint32, (on Uint64, tt))))) (λ no. signed no))
       where
         on : (kind : IntegerType) → code ≡ code_of kind → Decided later.code (way test (code_of kind) value chosen (entry_of kind))
-        on kind is = decides_on image (At place) base near after.code later_grows.0 later.code (way test (code_of kind) value chosen (entry_of kind)) F later_grows.1 (each kind is)
+        on kind is = decides_on image (At place) base near after.code later.code (way test (code_of kind) value chosen (entry_of kind)) F later_grows (each kind is)
 
         no_kind : NoneOf code (unsigned_types s.sizes) → NoneOf code signed_list → (kind : IntegerType) → code ≡ code_of kind → ⊥
         no_kind plain signed Byte = plain.0
@@ -108,17 +106,14 @@ module _ (image : List ℕ) (place n : ℕ) (test : Test) (value : Integer) (bas
         signed : NoneOf code (unsigned_types s.sizes) → Decided later.code later.entry
         signed plain =
             dispatch_decides image place base near F n code test value chosen signed_list last loads (each Int16, (each Int32, (each Int64, tt)))
-            (λ no. let up = upon_eight image place base chosen test value o s upon in
-            decides_on image (At place) base near base up.0 after.code near.fails F up.1 (decides_false image (At place) base near F (none (no_kind plain no))))
+            (λ no. decides_on image (At place) base near base after.code near.fails F (upon_eight image place base chosen test value o s upon) (decides_false image (At place) base near F (none (no_kind plain no))))
 
 -- ---- both orders
 
 -- bits are compared, or looked for
 order_or_bit : (test : Test) → IsOrder test ⊎ (test ≡ machine.SharesBit)
-order_or_bit machine.Equal = inl tt
-order_or_bit machine.Above = inl tt
-order_or_bit machine.AtLeast = inl tt
 order_or_bit machine.SharesBit = inr refl
+order_or_bit _ = inl tt
 
 -- what the test says of a value
 abbrev pub Found : NumberRelation → Integer → DataType → Value → Type 0
@@ -126,33 +121,15 @@ Found relation value t v = IsSomeAnd (integer_in (number_in (Some (t, v)))) (λ 
 
 found_kind : (relation : NumberRelation) (value : Integer) (kind : IntegerType) (bits : ℕ) → Says (equality_of relation) (Compared (comparison_of relation) (bits, integer_of (code_of kind) bits) value) ↔ Found relation value (basic (code_of kind)) (number bits)
 found_kind relation value Byte bits = relation_says relation (bits, integer_of 121 bits) value
-found_kind relation value Boolean bits = relation_says relation (bits, integer_of 98 bits) value
-found_kind relation value Int16 bits = relation_says relation (bits, integer_of 110 bits) value
-found_kind relation value Uint16 bits = relation_says relation (bits, integer_of 113 bits) value
-found_kind relation value Int32 bits = relation_says relation (bits, integer_of 105 bits) value
-found_kind relation value Uint32 bits = relation_says relation (bits, integer_of 117 bits) value
-found_kind relation value Int64 bits = relation_says relation (bits, integer_of 120 bits) value
-found_kind relation value Uint64 bits = relation_says relation (bits, integer_of 116 bits) value
+found_kind relation value kind bits = relation_says relation (bits, integer_of (code_of kind) bits) value
 
 known : (kind : IntegerType) → IsNumberCode (code_of kind)
 known Byte = (refl, (λ e. omega arith), (λ e. omega arith), (λ e. omega arith))
-known Boolean = (refl, (λ e. omega arith), (λ e. omega arith), (λ e. omega arith))
-known Int16 = (refl, (λ e. omega arith), (λ e. omega arith), (λ e. omega arith))
-known Uint16 = (refl, (λ e. omega arith), (λ e. omega arith), (λ e. omega arith))
-known Int32 = (refl, (λ e. omega arith), (λ e. omega arith), (λ e. omega arith))
-known Uint32 = (refl, (λ e. omega arith), (λ e. omega arith), (λ e. omega arith))
-known Int64 = (refl, (λ e. omega arith), (λ e. omega arith), (λ e. omega arith))
-known Uint64 = (refl, (λ e. omega arith), (λ e. omega arith), (λ e. omega arith))
+known _ = (refl, (λ e. omega arith), (λ e. omega arith), (λ e. omega arith))
 
 small_of : (kind : IntegerType) (bits : ℕ) → bits < fits.limit_of (code_of kind) → bits < 2 ^ bits_of_code (code_of kind)
-small_of Byte bits l = l
 small_of Boolean bits l = omega (arith, l)
-small_of Int16 bits l = l
-small_of Uint16 bits l = l
-small_of Int32 bits l = l
-small_of Uint32 bits l = l
-small_of Int64 bits l = l
-small_of Uint64 bits l = l
+small_of _ bits l = l
 
 -- a code of none of the types
 none_of : (c : ℕ) → is_integer_code c ≡ true → ((kind : IntegerType) → c ≡ code_of kind → ⊥) → ⊥
@@ -187,29 +164,27 @@ module _ (image : List ℕ) (place n : ℕ) (relation : NumberRelation) (value :
   abbrev plain : Sized
   plain = littles test (bits_of value) chosen base
 
-  abbrev little_up : (middle : List Ins) × (plain.code ≡ middle ++ base)
+  abbrev little_up : Before base plain.code
   little_up = upon_littles image place base chosen test (bits_of value)
 
   abbrev little : Entered
   little = typed n test value Little chosen near.fails plain
 
-  abbrev little_grows : (middle : List Ins) × (little.code ≡ middle ++ plain.code)
+  abbrev little_grows : Before plain.code little.code
   little_grows = typed_grows image place n test value base near chosen Little plain little_up
 
   abbrev words : Sized
   words = bigs test (bits_of value) chosen plain.sizes.one little.code
 
-  abbrev big_up : (middle : List Ins) × (words.code ≡ middle ++ base)
-  big_up = up image place base chosen test value little.code little_grows.0 little_grows.1
+  abbrev big_up : Before base words.code
+  big_up = up image place base chosen test value little.code little_grows
 
   abbrev big : Entered
   big = typed n test value Big chosen near.fails words
 
-  big_grows : (middle : List Ins) × (big.code ≡ middle ++ little.code)
+  big_grows : Before little.code big.code
   big_grows =
-      let t = typed_grows image place n test value base near chosen Big words big_up in
-      let g = grown image place base chosen test value little.code little_grows.0 little_grows.1 in
-      (t.0 ++ g.0, t.1 ∙ ap (λ (code : List Ins). t.0 ++ code) g.1 ∙ sym (append_assoc t.0 g.0 little.code))
+      joined little.code words.code big.code (typed_grows image place n test value base near chosen Big words big_up) (grown image place base chosen test value little.code little_grows)
 
   -- the comparison of a type in a message of either order, from its way on
   abbrev pub Little_way : IntegerType → Type 0 → Type 0
@@ -220,7 +195,7 @@ module _ (image : List ℕ) (place n : ℕ) (relation : NumberRelation) (value :
 
   pub compared_decides : (order : Order) (code : ℕ) (F : Type 0) → load_word image order_place ≡ Some (order_byte order) → load_word image (argument_place n) ≡ Some code → (order ≡ Little → (kind : IntegerType) → code ≡ code_of kind → Little_way kind F) → (order ≡ Big → (kind : IntegerType) → code ≡ code_of kind → Big_way kind F) → (((kind : IntegerType) → code ≡ code_of kind → ⊥) → F → ⊥) → Decides image (At place) base near (compared n test value chosen near.fails base) (length (compared n test value chosen near.fails base)) F
   compared_decides order code F loads word first second none =
-      orders_decide image place base near F order little big big_grows.0 loads big_grows.1
+      orders_decide image place base near F order little big loads big_grows
       (λ e. typed_decides image place n test value base near chosen Little plain little_up F code word (first e) none)
       (λ e. typed_decides image place n test value base near chosen Big words big_up F code word (second e) none)
 
@@ -241,8 +216,8 @@ module _ (image : List ℕ) (place n : ℕ) (relation : NumberRelation) (value :
       let entry = way test (code_of kind) value chosen (entry_of image place n test value base near chosen Big words big_up kind) in
       let C = Compared test (bits, integer_of (code_of kind) bits) value in
       let d : Decides image (At place) base chosen code entry C = elim (order_or_bit test) [
-        | inl order ↦ big_order image place base chosen test value little.code little_grows.0 little_grows.1 order kind bits lies small
-        | inr is ↦ big_shares image place base chosen test value little.code little_grows.0 little_grows.1 kind bits is lies small
+        | inl order ↦ big_order image place base chosen test value little.code little_grows order kind bits lies small
+        | inr is ↦ big_shares image place base chosen test value little.code little_grows kind bits is lies small
       ] in
       decides_same image (At place) base near code entry (Says (equality_of relation) C) _ (found_kind relation value kind bits) (decides_says image (At place) base near code entry (equality_of relation) C d)
 
@@ -290,13 +265,7 @@ module _ (image : List ℕ) (n : ℕ) (relation : NumberRelation) (value : Integ
 
 no_zero : (kind : IntegerType) → 0 ≡ code_of kind → ⊥
 no_zero Byte e = omega (arith, e)
-no_zero Boolean e = omega (arith, e)
-no_zero Int16 e = omega (arith, e)
-no_zero Uint16 e = omega (arith, e)
-no_zero Int32 e = omega (arith, e)
-no_zero Uint32 e = omega (arith, e)
-no_zero Int64 e = omega (arith, e)
-no_zero Uint64 e = omega (arith, e)
+no_zero _ e = omega (arith, e)
 
 -- an exit and a rest of any kind
 abbrev some_exits : Exits
@@ -318,9 +287,6 @@ tests_arg_number image bytes order levels n o v relation value loads shows (inr 
 
 -- ---- in front of its rest
 
-joined : (a b code more rest : List Ins) → code ≡ a ++ more → more ≡ b ++ rest → code ≡ (a ++ b) ++ rest
-joined a b code more rest first next = first ∙ ap (λ (code : List Ins). a ++ code) next ∙ sym (append_assoc a b rest)
-
 pub extends_arg_number : (n : ℕ) (relation : NumberRelation) (value : Integer) → Extends (arg_number n relation value)
 extends_arg_number n relation value exits rest =
     let base = jumps exits rest in
@@ -334,11 +300,9 @@ extends_arg_number n relation value exits rest =
     let u = upon_littles [] 0 base chosen test (bits_of value) in
     let l = typed_grows [] 0 n test value base near chosen Little s u in
     let g = big_grows [] 0 n relation value exits rest in
-    let first : List Ins = jump_over (length (fails_jump exits rest) - exits.holds) ∷ jump_over (length rest - exits.fails) ∷ [] in
     let load = image_word order_place in
-    let fork = branch machine.Equal 108 (length big.code - little.entry) (length big.code - big.entry) in
-    let a : s.code ≡ (u.0 ++ first) ++ rest = joined u.0 first s.code base rest u.1 refl in
-    let b : little.code ≡ (l.0 ++ (u.0 ++ first)) ++ rest = joined l.0 (u.0 ++ first) little.code s.code rest l.1 a in
-    let c : big.code ≡ (g.0 ++ (l.0 ++ (u.0 ++ first))) ++ rest = joined g.0 (l.0 ++ (u.0 ++ first)) big.code little.code rest g.1 b in
+    let fork = branch machine.Equal 108 (over big.code little.entry) (over big.code big.entry) in
+    let first : Before rest base = (jump_over (over (fails_jump exits rest) exits.holds) ∷ jump_over (over rest exits.fails) ∷ [], refl) in
+    let all = joined rest little.code big.code g (joined rest s.code little.code l (joined rest base s.code u first)) in
     let start = image_word (argument_place n + 4) in
-    (start ∷ index_from_a ∷ load ∷ fork ∷ (g.0 ++ (l.0 ++ (u.0 ++ first))), ap (λ (code : List Ins). start ∷ index_from_a ∷ load ∷ fork ∷ code) c)
+    (start ∷ index_from_a ∷ load ∷ fork ∷ all.0, ap (λ (code : List Ins). start ∷ index_from_a ∷ load ∷ fork ∷ code) all.1)

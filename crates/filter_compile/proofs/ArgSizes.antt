@@ -1,13 +1,12 @@
 -- The entries of numbers of one, two, four and eight bytes: from each of them on the number is compared.
-use Rattle.std.proofs.Common.{◌≡◌, ℕ, zero, suc, ◌+◌, ◌/◌, ◌%◌, ◌^◌, ◌<◌, ◌≤◌, List, [], ◌∷◌, ◌++◌, length, Some, ◌↔◌, refl, sym, ap, ◌∙◌, arith, subst}
+use Rattle.std.proofs.Common.{◌≡◌, ℕ, zero, suc, ◌+◌, ◌/◌, ◌%◌, ◌^◌, ◌<◌, ◌≤◌, List, [], ◌∷◌, length, Some, ◌↔◌, refl, sym, ap, ◌∙◌, arith, subst}
 use Rattle.std.specs.Prelude.{bit_and}
 use Rattle.std.specs.Int.{byte_at, bytes_low_first}
 use Rattle.std.proofs.lemmas.Nat.{and_le_l, and_mod}
-use Rattle.std.proofs.lemmas.List.{append_assoc}
 use Rattle.bpf_code.specs.Loads.{load}
 use Rattle.bpf_code.specs.declared.instruction.Ins.{Ins}
 use Rattle.bpf_code.specs.declared.operation.Test.{Test}
-use Rattle.bpf_code.specs.declared.operation.Test.TheVariants.{Equal, Above, AtLeast, SharesBit}
+use Rattle.bpf_code.specs.declared.operation.Test.TheVariants.{Equal, SharesBit}
 use Rattle.bpf_code.specs.declared.operation.Width.{Width}
 use Rattle.bpf_code.specs.declared.operation.Width.TheVariants.{Word, Half, Byte}
 use Rattle.rule_compile.proofs.Bytes.{At}
@@ -20,21 +19,19 @@ use Rattle.filter_compile.proofs.HighBytes.{high}
 use Rattle.filter_compile.proofs.Ladders.{Ordered, tests_ladder, tests_wide, tests_lowest}
 use Rattle.filter_compile.proofs.NumberLoads.{little_loads}
 use Rattle.filter_compile.proofs.SharedBits.{Share, tests_shared_ladder, tests_shared_wide, tests_shared_one}
-use Rattle.filter_compile.proofs.TwoExits.{leads_here, leads_on, Tests, tests_same}
+use Rattle.filter_compile.proofs.TwoExits.{Before, joined, leads_here, leads_on, Tests, tests_same}
 use Rattle.filter_compile.proofs.TypeIntegers.{IsOrder}
 
 no_order : (test : Test) → IsOrder test → test ≡ SharesBit → ⊥
-no_order Equal order e = cc
-no_order Above order e = cc
-no_order AtLeast order e = cc
 no_order SharesBit order e = order
+no_order _ order e = cc
 
 -- a piece in front of a code
-pub decides_piece : (image : List ℕ) (X : ℕ → Type 0) (base : List Ins) (exits : Exits) (code middle : List Ins) (C : Type 0) (f : Piece) → code ≡ middle ++ base → Tests image X C f → Decides image X base exits (f exits code) (length (f exits code)) C
-decides_piece image X base exits code middle C f is t = record {
+pub decides_piece : (image : List ℕ) (X : ℕ → Type 0) (base : List Ins) (exits : Exits) (code : List Ins) (C : Type 0) (f : Piece) → Before base code → Tests image X C f → Decides image X base exits (f exits code) (length (f exits code)) C
+decides_piece image X base exits code C f before t = record {
   decided = t.decided;
-  holds = λ v leads c. leads_here (f exits code) image X v (t.holds exits code v (leads_on code middle base exits.holds image X v is leads) c);
-  fails = λ v leads n. leads_here (f exits code) image X v (t.fails exits code v (leads_on code middle base exits.fails image X v is leads) n);
+  holds = λ v leads c. leads_here (f exits code) image X v (t.holds exits code v (leads_on code base exits.holds image X v before leads) c);
+  fails = λ v leads n. leads_here (f exits code) image X v (t.fails exits code v (leads_on code base exits.fails image X v before leads) n);
 }
 
 -- ---- the same lowest bytes
@@ -141,16 +138,15 @@ big_shared_eight image place n k small first second =
 
 -- ---- codes grow
 
-pub rung_grows : (test : Test) (width : Width) (at key : ℕ) (exits : Exits) (code : List Ins) → (middle : List Ins) × (rung_code test width at key exits code ≡ middle ++ code)
+pub rung_grows : (test : Test) (width : Width) (at key : ℕ) (exits : Exits) (code : List Ins) → Before code (rung_code test width at key exits code)
 rung_grows Equal width at key exits code = (_ ∷ _ ∷ [], refl)
 rung_grows SharesBit width at key exits code = (_ ∷ _ ∷ [], refl)
-rung_grows Above width at key exits code = (_ ∷ _ ∷ _ ∷ _ ∷ [], refl)
-rung_grows AtLeast width at key exits code = (_ ∷ _ ∷ _ ∷ _ ∷ [], refl)
+rung_grows _ width at key exits code = (_ ∷ _ ∷ _ ∷ _ ∷ [], refl)
 
-pub ladder_grows : (test : Test) (bits d j : ℕ) (exits : Exits) (rest : List Ins) → (middle : List Ins) × (ladder test bits (d + j) exits rest ≡ middle ++ ladder test bits j exits rest)
+pub ladder_grows : (test : Test) (bits d j : ℕ) (exits : Exits) (rest : List Ins) → Before (ladder test bits j exits rest) (ladder test bits (d + j) exits rest)
 ladder_grows test bits zero j exits rest = let e : 0 + j ≡ j = omega arith in ([], ap (λ (i : ℕ). ladder test bits i exits rest) e)
 ladder_grows test bits (suc d) j exits rest =
     let e : suc d + j ≡ suc (d + j) = omega arith in
-    let more = ladder_grows test bits d j exits rest in
     let here = rung_grows test Byte (suc (d + j)) (byte_at (suc (d + j)) bits) exits (ladder test bits (d + j) exits rest) in
-    (here.0 ++ more.0, ap (λ (i : ℕ). ladder test bits i exits rest) e ∙ here.1 ∙ ap (λ (code : List Ins). here.0 ++ code) more.1 ∙ sym (append_assoc here.0 more.0 (ladder test bits j exits rest)))
+    let all = joined (ladder test bits j exits rest) (ladder test bits (d + j) exits rest) (ladder test bits (suc (d + j)) exits rest) here (ladder_grows test bits d j exits rest) in
+    (all.0, ap (λ (i : ℕ). ladder test bits i exits rest) e ∙ all.1)

@@ -1,12 +1,11 @@
 -- The types of a message of one order: each goes its way to the entry of its size, and is compared from there on.
-use Rattle.std.proofs.Common.{◌≡◌, ℕ, ◌+◌, ◌-◌, ◌*◌, ◌%◌, ◌<◌, ◌≤◌, Bool, true, false, List, [], ◌∷◌, ◌++◌, Some, ◌↔◌, refl, sym, ap, ◌∙◌, arith, subst}
+use Rattle.std.proofs.Common.{◌≡◌, ℕ, ◌+◌, ◌-◌, ◌*◌, ◌%◌, ◌<◌, ◌≤◌, Bool, true, false, List, [], ◌∷◌, Some, ◌↔◌, refl, sym, ap, ◌∙◌, arith, subst}
 use Rattle.std.specs.Prelude.{nat_lt, ◌&&◌}
 use Rattle.std.proofs.lemmas.Bool.{false≢true, and_parts, ltb-true, ltb-false}
-use Rattle.std.proofs.lemmas.List.{append_assoc}
 use Rattle.bpf_code.specs.Loads.{load}
 use Rattle.bpf_code.specs.declared.instruction.Ins.{Ins}
 use Rattle.bpf_code.specs.declared.operation.Test.{Test}
-use Rattle.bpf_code.specs.declared.operation.Test.TheVariants.{Equal, Above, AtLeast, SharesBit}
+use Rattle.bpf_code.specs.declared.operation.Test.TheVariants.{Equal, SharesBit}
 use Rattle.bpf_code.specs.declared.operation.Width.TheVariants as widths
 use Rattle.message_value.specs.declared.order.Order.{Order}
 use Rattle.rule_compile.proofs.Bytes.{At}
@@ -15,12 +14,13 @@ use Rattle.filter.specs.declared.integer.Integer.TheVariants.{Natural, Negative}
 use Rattle.filter_compile.specs.ArgCode.{bits_of, limit_of, is_inside, way, sign_step, top_at, Sized, signs}
 use Rattle.filter_compile.specs.Entered.{Entered}
 use Rattle.filter_compile.specs.Holds.{is_signed_code, shares}
-use Rattle.filter_compile.specs.declared.arg_number.IntegerType.{IntegerType}
-use Rattle.filter_compile.specs.declared.arg_number.IntegerType.TheVariants.{Byte, Boolean, Int16, Uint16, Int32, Uint32, Int64, Uint64}
+use Rattle.filter_compile.specs.declared.integer_type.IntegerType.{IntegerType}
+use Rattle.filter_compile.specs.declared.integer_type.IntegerType.TheVariants.{Byte, Boolean, Int16, Uint16, Int32, Uint32, Int64, Uint64}
 use Rattle.filter_compile.specs.declared.exits.Exits.{Exits}
 use Rattle.filter_compile.proofs.Entries.{Decides, decides_on, decides_same}
 use Rattle.filter_compile.proofs.Ladders.{Ordered}
 use Rattle.filter_compile.proofs.SharedBits.{Share, shares_word}
+use Rattle.filter_compile.proofs.TwoExits.{Before, joined}
 use Rattle.filter_compile.proofs.TypeEntries.{from_false, from_way, from_unsigned, signed_integer, from_sign, signed_outside}
 use Rattle.filter_compile.proofs.TypeIntegers.{Compared, IsOrder}
 
@@ -28,13 +28,12 @@ other_false : (a b : Bool) → a ≡ true → (a && b) ≡ false → b ≡ false
 other_false true b is e = e
 other_false false b is e = absurd (false≢true is)
 
-sign_grows : (test : Test) (value : Integer) (at : ℕ) (exits : Exits) (entry : ℕ) (code : List Ins) → (middle : List Ins) × ((sign_step test value at exits entry code).code ≡ middle ++ code)
+sign_grows : (test : Test) (value : Integer) (at : ℕ) (exits : Exits) (entry : ℕ) (code : List Ins) → Before code (sign_step test value at exits entry code).code
 sign_grows Equal value at exits entry code = ([], refl)
 sign_grows SharesBit value at exits entry code = ([], refl)
-sign_grows Above value at exits entry code = (_ ∷ _ ∷ [], refl)
-sign_grows AtLeast value at exits entry code = (_ ∷ _ ∷ [], refl)
+sign_grows _ value at exits entry code = (_ ∷ _ ∷ [], refl)
 
-module _ (image : List ℕ) (place : ℕ) (base : List Ins) (exits : Exits) (test : Test) (value : Integer) (o : Order) (s : Sized) (upon : (middle : List Ins) × (s.code ≡ middle ++ base)) where
+module _ (image : List ℕ) (place : ℕ) (base : List Ins) (exits : Exits) (test : Test) (value : Integer) (o : Order) (s : Sized) (upon : Before base s.code) where
   pub two : Entered
   two = sign_step test value (top_at o 2) exits s.sizes.two s.code
 
@@ -58,43 +57,38 @@ module _ (image : List ℕ) (place : ℕ) (base : List Ins) (exits : Exits) (tes
   abbrev Decided : List Ins → ℕ → Type 0 → Type 0
   Decided code entry C = Decides image (At place) base exits code entry C
 
-  grows_two : (middle : List Ins) × (two.code ≡ middle ++ s.code)
+  grows_two : Before s.code two.code
   unfolding two
   grows_two = sign_grows test value (top_at o 2) exits s.sizes.two s.code
 
-  grows_four : (middle : List Ins) × (four.code ≡ middle ++ two.code)
+  grows_four : Before two.code four.code
   unfolding four
   grows_four = sign_grows test value (top_at o 4) exits s.sizes.four two.code
 
-  grows_eight : (middle : List Ins) × (eight.code ≡ middle ++ four.code)
+  grows_eight : Before four.code eight.code
   unfolding eight
   grows_eight = sign_grows test value (top_at o 8) exits s.sizes.eight four.code
 
-  joined : (a b rest code more : List Ins) → code ≡ a ++ more → more ≡ b ++ rest → code ≡ (a ++ b) ++ rest
-  joined a b rest code more first next = first ∙ ap (λ (code : List Ins). a ++ code) next ∙ sym (append_assoc a b rest)
+  upon_two : Before base two.code
+  upon_two = joined base s.code two.code grows_two upon
 
-  upon_two : (middle : List Ins) × (two.code ≡ middle ++ base)
-  upon_two = (grows_two.0 ++ upon.0, joined grows_two.0 upon.0 base two.code s.code grows_two.1 upon.1)
+  upon_four : Before base four.code
+  upon_four = joined base two.code four.code grows_four upon_two
 
-  upon_four : (middle : List Ins) × (four.code ≡ middle ++ base)
-  upon_four = (grows_four.0 ++ upon_two.0, joined grows_four.0 upon_two.0 base four.code two.code grows_four.1 upon_two.1)
+  pub upon_eight : Before base eight.code
+  upon_eight = joined base four.code eight.code grows_eight upon_four
 
-  pub upon_eight : (middle : List Ins) × (eight.code ≡ middle ++ base)
-  upon_eight = (grows_eight.0 ++ upon_four.0, joined grows_eight.0 upon_four.0 base eight.code four.code grows_eight.1 upon_four.1)
-
-  pub grows_all : (middle : List Ins) × (eight.code ≡ middle ++ s.code)
-  grows_all =
-      let first = joined grows_eight.0 grows_four.0 two.code eight.code four.code grows_eight.1 grows_four.1 in
-      ((grows_eight.0 ++ grows_four.0) ++ grows_two.0, joined (grows_eight.0 ++ grows_four.0) grows_two.0 s.code eight.code two.code first grows_two.1)
+  pub grows_all : Before s.code eight.code
+  grows_all = joined s.code two.code eight.code (joined two.code four.code eight.code grows_eight grows_four) grows_two
 
   on_two : (entry : ℕ) (C : Type 0) → Decided s.code entry C → Decided two.code entry C
-  on_two entry C d = decides_on image (At place) base exits s.code grows_two.0 two.code entry C grows_two.1 d
+  on_two entry C d = decides_on image (At place) base exits s.code two.code entry C grows_two d
 
   on_four : (entry : ℕ) (C : Type 0) → Decided two.code entry C → Decided four.code entry C
-  on_four entry C d = decides_on image (At place) base exits two.code grows_four.0 four.code entry C grows_four.1 d
+  on_four entry C d = decides_on image (At place) base exits two.code four.code entry C grows_four d
 
   on_eight : (entry : ℕ) (C : Type 0) → Decided four.code entry C → Decided eight.code entry C
-  on_eight entry C d = decides_on image (At place) base exits four.code grows_eight.0 eight.code entry C grows_eight.1 d
+  on_eight entry C d = decides_on image (At place) base exits four.code eight.code entry C grows_eight d
 
   pub on_all : (entry : ℕ) (C : Type 0) → Decided s.code entry C → Decided eight.code entry C
   on_all entry C d = on_eight entry C (on_four entry C (on_two entry C d))
@@ -178,12 +172,12 @@ module _ (image : List ℕ) (place : ℕ) (base : List Ins) (exits : Exits) (tes
   )
 
 -- the way of `&`
-shared_way : (image : List ℕ) (place : ℕ) (base : List Ins) (exits : Exits) (kind n entry : ℕ) (i value : Integer) (code : List Ins) → ((middle : List Ins) × (code ≡ middle ++ base)) → Decides image (At place) base exits code entry (Share n (bits_of value)) → Decides image (At place) base exits code (way SharesBit kind value exits entry) (shares n value ≡ true)
+shared_way : (image : List ℕ) (place : ℕ) (base : List Ins) (exits : Exits) (kind n entry : ℕ) (i value : Integer) (code : List Ins) → Before base code → Decides image (At place) base exits code entry (Share n (bits_of value)) → Decides image (At place) base exits code (way SharesBit kind value exits entry) (shares n value ≡ true)
 shared_way image place base exits kind n entry i (Natural v) code upon d =
     decides_same image (At place) base exits code entry (Share n v) (shares n (Natural v) ≡ true) ((shares_word n v).1, (shares_word n v).0) d
 shared_way image place base exits kind n entry i (Negative m) code upon d = from_false image place base exits code (false ≡ true) upon false≢true
 
-pub shared_type : (image : List ℕ) (place : ℕ) (base : List Ins) (exits : Exits) (test : Test) (value : Integer) (o : Order) (s : Sized) (upon : (middle : List Ins) × (s.code ≡ middle ++ base)) (kind n entry plain : ℕ) (i : Integer) → test ≡ SharesBit → entry ≡ plain → Decides image (At place) base exits s.code plain (Share n (bits_of value)) → Decides image (At place) base exits (eight image place base exits test value o s upon).code (way test kind value exits entry) (Compared test (n, i) value)
+pub shared_type : (image : List ℕ) (place : ℕ) (base : List Ins) (exits : Exits) (test : Test) (value : Integer) (o : Order) (s : Sized) (upon : Before base s.code) (kind n entry plain : ℕ) (i : Integer) → test ≡ SharesBit → entry ≡ plain → Decides image (At place) base exits s.code plain (Share n (bits_of value)) → Decides image (At place) base exits (eight image place base exits test value o s upon).code (way test kind value exits entry) (Compared test (n, i) value)
 shared_type image place base exits test value o s upon kind n entry plain i is same d =
     let code = (eight image place base exits test value o s upon).code in
     let here : Decides image (At place) base exits code (way SharesBit kind value exits plain) (shares n value ≡ true) = shared_way image place base exits kind n plain i value code (upon_eight image place base exits test value o s upon) (on_all image place base exits test value o s upon plain (Share n (bits_of value)) d) in

@@ -1,5 +1,5 @@
 -- The lowered program of a filter, from what is known of the program before it was lowered.
-use Rattle.std.proofs.Common.{◌≡◌, ◌↔◌, ℕ, ◌+◌, ◌<◌, ◌≤◌, Bool, true, false, List, [], ◌∷◌, length, refl, sym, subst, inl, inr, ◌++◌, ◌-◌, ap, ◌∙◌, arith}
+use Rattle.std.proofs.Common.{◌≡◌, ◌↔◌, ℕ, ◌<◌, ◌≤◌, Bool, true, false, List, [], ◌∷◌, length, refl, sym, subst, inl, inr, ◌++◌, ap, ◌∙◌, arith}
 use Rattle.std.specs.Prelude.{nat_lt, if◌then◌else◌}
 use Rattle.std.proofs.lemmas.Bool.{ltb-false}
 use Rattle.std.proofs.lemmas.List.{length-append, nil_from_length}
@@ -30,7 +30,8 @@ use Rattle.filter_compile.specs.FilterCode.{filter_code, from_entry, last_exits,
 use Rattle.filter_compile.specs.Holds.{FilterHolds}
 use Rattle.filter_compile.specs.Names.{names_of}
 use Rattle.filter_compile.specs.Numbers.{error_of}
-use Rattle.filter_compile.proofs.TwoExits.{LeadsAt}
+use Rattle.filter_compile.specs.Pieces.{over}
+use Rattle.filter_compile.proofs.TwoExits.{LeadsAt, over_front}
 use Rattle.filter_compile.proofs.Runs.{runs_jump}
 use Rattle.filter_compile.proofs.NamesOf.{AsksIn, asks_its_names, slot_below, names_below}
 use Rattle.filter_compile.proofs.TestRuns.{Slots, test_runs, extends_piece}
@@ -58,16 +59,13 @@ mutual
 enters : (code : List Ins) (entry : ℕ) (image : List ℕ) (v : ℕ) → LeadsAt code entry image Any v → RunsTo (from_entry code entry) image 0 0 v
 enters code entry image v l = go (nat_lt entry (length code)) refl
   where
-    all : length code ≡ length l.front + entry
-    all = omega (arith, ap length l.is, length-append l.front l.exit, l.len)
-
-    go : (later : Bool) → nat_lt entry (length code) ≡ later → RunsTo (if later then jump_over (length code - entry) ∷ code else code) image 0 0 v
+    go : (later : Bool) → nat_lt entry (length code) ≡ later → RunsTo (if later then jump_over (over code entry) ∷ code else code) image 0 0 v
     go true is =
-        let e : length l.front ≡ length code - entry = omega (arith, all) in
-        subst (λ (more : List Ins). RunsTo (jump_over (length code - entry) ∷ more) image 0 0 v) (sym l.is) (runs_jump l.front l.exit image (length code - entry) 0 0 v e (l.leads 0 0 tt))
+        let e = over_front code entry image Any v 0 0 l tt in
+        subst (λ (more : List Ins). RunsTo (jump_over (over code entry) ∷ more) image 0 0 v) (sym l.is) (runs_jump l.front l.exit image (over code entry) 0 0 v e (l.leads 0 0 tt))
     go false is =
         let h = ltb-false entry (length code) is in
-        let none : l.front ≡ [] = nil_from_length l.front (omega (arith, all, h)) in
+        let none : l.front ≡ [] = nil_from_length l.front (omega (arith, ap length l.is, length-append l.front l.exit, l.len, h)) in
         let same : code ≡ l.exit = l.is ∙ ap (λ (front : List Ins). front ++ l.exit) none in
         subst (λ (more : List Ins). RunsTo more image 0 0 v) (sym same) (l.leads 0 0 tt)
 

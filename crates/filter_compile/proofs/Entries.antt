@@ -1,9 +1,9 @@
 -- Places of a program from which runs choose an exit by a fact: several entries may lead into the same instructions.
-use Rattle.std.proofs.Common.{◌≡◌, ℕ, length, List, ◌++◌, ◌⊎◌, ◌↔◌, inl, inr}
+use Rattle.std.proofs.Common.{ℕ, length, List, ◌⊎◌, ◌↔◌, inl, inr}
 use Rattle.bpf_code.specs.declared.instruction.Ins.{Ins}
 use Rattle.filter_compile.specs.declared.exits.Exits.{Exits}
 use Rattle.filter_compile.specs.Pieces.{Piece}
-use Rattle.filter_compile.proofs.TwoExits.{LeadsAt, leads_here, leads_on, Tests}
+use Rattle.filter_compile.proofs.TwoExits.{Before, LeadsAt, leads_here, leads_on, Tests}
 
 -- From the place with `entry` instructions to the end a run comes to the one exit of the base where the fact holds, and to
 -- the other where it doesn't.
@@ -13,11 +13,11 @@ pub record Decides (image : List ℕ) (X : ℕ → Type 0) (base : List Ins) (ex
   pub fails : (v : ℕ) → LeadsAt base exits.fails image X v → (C → ⊥) → LeadsAt code entry image X v
 
 -- more in front
-pub decides_on : (image : List ℕ) (X : ℕ → Type 0) (base : List Ins) (exits : Exits) (code middle more : List Ins) (entry : ℕ) (C : Type 0) → more ≡ middle ++ code → Decides image X base exits code entry C → Decides image X base exits more entry C
-decides_on image X base exits code middle more entry C is d = record {
+pub decides_on : (image : List ℕ) (X : ℕ → Type 0) (base : List Ins) (exits : Exits) (code more : List Ins) (entry : ℕ) (C : Type 0) → Before code more → Decides image X base exits code entry C → Decides image X base exits more entry C
+decides_on image X base exits code more entry C before d = record {
   decided = d.decided;
-  holds = λ v leads c. leads_on more middle code entry image X v is (d.holds v leads c);
-  fails = λ v leads n. leads_on more middle code entry image X v is (d.fails v leads n);
+  holds = λ v leads c. leads_on more code entry image X v before (d.holds v leads c);
+  fails = λ v leads n. leads_on more code entry image X v before (d.fails v leads n);
 }
 
 -- the fact in other words

@@ -1,8 +1,8 @@
 -- What the pieces test that look at one word of the summary.
-use Rattle.std.proofs.Common.{◌≡◌, ℕ, zero, suc, ◌+◌, ◌*◌, ◌/◌, ◌%◌, ◌^◌, ◌<◌, Bool, true, false, not, cond, List, [], ◌∷◌, length, eqb, Option, Some, None, inl, inr, refl, sym, ap, ◌∙◌, arith, subst, slice_index}
+use Rattle.std.proofs.Common.{◌≡◌, ℕ, ◌+◌, ◌/◌, ◌%◌, ◌^◌, ◌<◌, Bool, true, false, not, cond, List, [], ◌∷◌, length, eqb, Option, Some, None, inl, inr, refl, sym, ap, ◌∙◌, arith, subst, slice_index}
 use Rattle.std.specs.Prelude.{IsSomeAnd, is_some, min, unwrap_or}
 use Rattle.std.specs.Int.{bit_at}
-use Rattle.std.proofs.lemmas.Bool.{false≢true, cases_Bool, eqb-true, eqb-false, eq-eqb, ne_eqb, ltb-true, lt-ltb}
+use Rattle.std.proofs.lemmas.Bool.{false≢true, cases_Bool, eqb-true, eqb-false, eq-eqb, ltb-true, lt-ltb}
 use Rattle.std.proofs.lemmas.Nat.{pow_pos}
 use Rattle.std.proofs.lemmas.Nat.Bits.{and_pow, bit_at-lt}
 use Rattle.std.proofs.lemmas.Option.{same_Some}
@@ -18,12 +18,12 @@ use Rattle.message_view.specs.Message.{Field, Message, field_with, number_in, re
 use Rattle.message_view.specs.Spelling.{fixed_len, field_bytes}
 use Rattle.message_view.specs.Valid.{Valid, IsAllowed, AreFields}
 use Rattle.match_key.specs.declared.kind_name.KindName.{KindName}
-use Rattle.match_key.specs.declared.kind_name.KindName.TheVariants.{Signal}
 use Rattle.match_key.specs.Kinds.{kind_meant}
 use Rattle.summary.specs.declared.edition.Edition.TheVariants.{Two}
 use Rattle.summary.specs.Layout.{kind_place, count_place, argument_place, ownership_place, reply_serial_place}
 use Rattle.summary.specs.Sets.{has_slot}
 use Rattle.summary.specs.Shown.{ShowsText, ShowsArgument}
+use Rattle.rule_compile.proofs.Conditions.{kind_back, bit_shared}
 use Rattle.filter.specs.declared.test.ArgType.{ArgType}
 use Rattle.filter.specs.declared.test.ArgType.TheVariants as types
 use Rattle.filter.specs.declared.test.Equality.{Equality}
@@ -44,10 +44,6 @@ extends_says equalities.Equal f extends = extends
 extends_says equalities.Unequal f extends = extends_no f extends
 
 -- ---- the kind
-
-kind_back : (kind : KindName) → kind_of (kind_byte (kind_meant kind)) ≡ Some (kind_meant kind)
-kind_back Signal = refl
-kind_back _ = refl
 
 pub tests_kind : (image : List ℕ) (X : ℕ → Type 0) (kind : kinds.Kind) (name : KindName) → load_word image kind_place ≡ Some (kind_byte kind) → kind_of (kind_byte kind) ≡ Some kind → Tests image X (kind ≡ kind_meant name) (word_test kind_place Equal (kind_byte (kind_meant name)))
 tests_kind image X kind name is known =
@@ -124,12 +120,6 @@ tests_type image X n code (Some a) shows above =
     tests_same image X _ _ (has_type n code) (eqb-true a.code code, eq-eqb a.code code) (tests_word image X (argument_place n) a.code Equal code shows.code_word)
 
 -- ---- who owns a name
-
-bit_shared : (bit power : ℕ) → bit < 2 → 0 < power → not (eqb (bit * power) 0) ≡ eqb bit 1
-bit_shared zero power small lit = let e : 0 * power ≡ 0 = omega arith in rw e refl
-bit_shared (suc zero) power small lit =
-    let e : 1 * power ≡ 0 → ⊥ = λ h. omega arith in rw (ne_eqb (1 * power) 0 e) refl
-bit_shared (suc (suc bit)) power small lit = absurd (omega arith)
 
 pub tests_owns : (image : List ℕ) (X : ℕ → Type 0) (slots : List ℕ) (slot : ℕ) (owned : Bool) → load_word image (ownership_place slot) ≡ Some (slice_index slots (slot / 32)) → owned ≡ has_slot slots slot → Tests image X (owned ≡ true) (owns slot)
 tests_owns image X slots slot owned is agrees =

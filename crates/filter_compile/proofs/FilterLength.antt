@@ -3,8 +3,6 @@ use Rattle.std.proofs.Common.{◌≡◌, ℕ, zero, suc, ◌+◌, ◌-◌, ◌*�
 use Rattle.std.specs.Prelude.{◌%◌, ◌^◌, ◌==◌, if◌then◌else◌, nat_lt}
 use Rattle.std.specs.Str.{bytes_eq}
 use Rattle.std.proofs.lemmas.Bool.{cases_Bool, ltb-true}
-use Rattle.std.proofs.lemmas.Bool.Decides.{nat_tests}
-use Rattle.std.proofs.lemmas.List.Sums.{sum_by-cons}
 use Rattle.bpf_code.specs.declared.instruction.Ins.{Ins}
 use Rattle.bpf_code.specs.declared.operation.Arithmetic.TheVariants.{Add, Sub}
 use Rattle.bpf_code.specs.declared.operation.Op.TheVariants.{Compute, LoadLength}
@@ -17,13 +15,12 @@ use Rattle.jump_islands.specs.PlainLength.{is_far, count, span, sizes_of, plain_
 use Rattle.jump_islands.specs.Source.{jump_over}
 use Rattle.rule_compile.specs.Code.{plain, image_word, load_indexed, index_from_a, branch}
 use Rattle.match_rule.specs.Bytes.{ends_with}
-use Rattle.rule_compile.specs.Folders.{with_front, parts_of}
+use Rattle.rule_compile.specs.Folders.{parts_of}
 use Rattle.rule_compile.specs.RuleCode.{verdicts}
 use Rattle.filter.specs.declared.integer.Integer.{Integer}
 use Rattle.filter.specs.declared.integer.Integer.TheVariants.{Natural, Negative}
 use Rattle.filter.specs.declared.test.Equality.{Equality}
 use Rattle.filter.specs.declared.test.NumberRelation.{NumberRelation}
-use Rattle.filter.specs.declared.test.NumberRelation.TheVariants as numbers
 use Rattle.filter.specs.declared.test.NumberSource.{NumberSource}
 use Rattle.filter.specs.declared.test.NumberSource.TheVariants as sources
 use Rattle.filter.specs.declared.test.Scope.{Scope}
@@ -35,20 +32,20 @@ use Rattle.filter.specs.declared.test.TextRelation.TheVariants as relations
 use Rattle.filter.specs.declared.test.TextSource.{TextSource}
 use Rattle.filter.specs.declared.test.TextSource.TheVariants as texts
 use Rattle.filter.specs.FilterTree.{FilterTree, FilterTrees, test as one_test, all, any, negation, no_filters, one_more}
-use Rattle.filter.specs.Weights.{asks_owner, text_weight, slashes, scope_weight, arg_weight, test_weight, tests_weight, sum_weight, weight_of}
+use Rattle.filter.specs.Weights.{asks_owner, text_weight, slashes, scope_weight, number_weight, test_weight, tests_weight, sum_weight, weight_of}
 use Rattle.filter_compile.specs.declared.exits.Exits.{Exits}
 use Rattle.filter_compile.specs.Entered.{Entered}
 use Rattle.filter_compile.specs.FilterCode.{filter_code, all_code, any_code, from_entry, last_exits, program_code}
 use Rattle.filter_compile.specs.Names.{slot_in}
-use Rattle.filter_compile.specs.Pieces.{Piece, turned, holds_next, fails_next, both, fork, word_test, indexed_test, has_len, from_start, index_back, from_back, unit_len, unit_number, same_unit, same_units, same_by, same_bytes, len_then, front, ends, end_or, bytes_before, in_namespace, part_test, inner_part, follow_parts, is_nested}
+use Rattle.filter_compile.specs.Pieces.{Piece, over, turned, holds_next, fails_next, both, fork, word_test, indexed_test, has_len, from_start, index_back, from_back, unit_len, unit_number, same_unit, same_units, same_by, same_bytes, len_then, front, ends, end_or, bytes_before, in_namespace, part_test, inner_part, follow_parts, is_nested}
 use Rattle.match_key.specs.ArgNumber.{number_of_arg}
 use Rattle.match_key.specs.Kinds.{kind_meant}
 use Rattle.message_view.specs.Header.{kind_byte}
 use Rattle.summary.specs.Layout.{kind_place, text_place, argument_place, ownership_place}
 use Rattle.filter_compile.specs.Holds.{flag_bit, type_code, text_code}
-use Rattle.filter_compile.specs.PieceOfTest.{test_code}
-use Rattle.filter_compile.specs.TestCode.{view_field, field_place, exits_for, truth_word, truth_code, words_at, has_text, text_relates, owner_code, text_code_of, number_load, number_compared, compare, compare_natural, comparison_of, equality_of, header_number, path_within, scope_words, scope_code}
-use Rattle.filter_compile.proofs.Lengths.{total, total_is, total_cons, branch_total, verdicts_total}
+use Rattle.filter_compile.specs.PieceOfTest.{number_code, test_code}
+use Rattle.filter_compile.specs.TestCode.{view_field, field_place, exits_for, truth_word, truth_code, words_at, has_text, text_relates, owner_code, text_code_of, number_relates, word_number, compare, compare_natural, comparison_of, equality_of, path_within, scope_words, scope_code}
+use Rattle.rule_compile.proofs.Lengths.{total, total_is, total_cons, branch_total, verdicts_total, one_far, index_total, choice_total, weight_of_parts, parts_weight}
 use Rattle.filter_compile.proofs.NearLength.{arg_number_total}
 
 -- ---- single instructions
@@ -57,14 +54,10 @@ few : (far : Bool) → count far ≤ 1
 few true = omega arith
 few false = omega arith
 
--- of two targets one of which is the next instruction at most the other is far
-one_far : (a : ℕ) → count (is_far 0 a) + count (is_far a 0) ≤ 1
-one_far a = grind (arith, nat_tests)
-
 fork_total : (test : Test) (k : ℕ) (exits : Exits) (rest : List Ins) → total (fork test k exits rest) ≤ 3 + total rest
 fork_total test k exits rest =
-    let hit = length rest - exits.holds in
-    let miss = length rest - exits.fails in
+    let hit = over rest exits.holds in
+    let miss = over rest exits.fails in
     omega (arith, branch_total test k hit miss rest, few (is_far (span hit (sizes_of rest)) (span miss (sizes_of rest))), few (is_far (span miss (sizes_of rest)) (span hit (sizes_of rest))))
 
 -- where one of the exits is the next instruction
@@ -74,14 +67,15 @@ near_total test k n rest = (
   omega (arith, one_far (span n (sizes_of rest)), branch_total test k n 0 rest),
 )
 
-none_left : (rest : List Ins) → length rest - length rest ≡ 0
+none_left : (rest : List Ins) → over rest (length rest) ≡ 0
+unfolding over
 none_left rest = omega arith
 
 holds_total : (test : Test) (k fails : ℕ) (rest : List Ins) → total (fork test k (record { holds = length rest; fails = fails }) rest) ≤ 2 + total rest
-holds_total test k fails rest = rw (none_left rest) ((near_total test k (length rest - fails) rest).0)
+holds_total test k fails rest = rw (none_left rest) ((near_total test k (over rest fails) rest).0)
 
 fails_total : (test : Test) (k holds : ℕ) (rest : List Ins) → total (fork test k (record { holds = holds; fails = length rest }) rest) ≤ 2 + total rest
-fails_total test k holds rest = rw (none_left rest) ((near_total test k (length rest - holds) rest).1)
+fails_total test k holds rest = rw (none_left rest) ((near_total test k (over rest holds) rest).1)
 
 -- ---- a load, and a comparison
 
@@ -130,18 +124,11 @@ bytes_total at value exits rest = elim (cases_Bool (nat_lt (length value) 2)) [
   ]
 ]
 
-start_total : (at : ℕ) (rest : List Ins) → total (image_word at ∷ index_from_a ∷ rest) ≡ 2 + total rest
-start_total at rest = omega (arith, total_cons (image_word at) (index_from_a ∷ rest), total_cons index_from_a rest)
-
 back_total : (n at : ℕ) (rest : List Ins) → total (index_back n at rest) ≡ 6 + total rest
 back_total n at rest =
     let add = plain (Compute Add Index) 0 ∷ index_from_a ∷ rest in
     let sub = plain (Compute Sub Constant) n ∷ index_from_a ∷ image_word at ∷ add in
-    omega (arith, total_cons (image_word (at + 4)) sub, total_cons (plain (Compute Sub Constant) n) (index_from_a ∷ image_word at ∷ add), start_total at rest, total_cons index_from_a (image_word at ∷ add), total_cons (image_word at) add, total_cons (plain (Compute Add Index) 0) (index_from_a ∷ rest), total_cons index_from_a rest)
-
-choice_total : (b : Bool) (n : ℕ) (hit miss : List Ins) → total hit ≤ n → total miss ≤ n → total (if b then hit else miss) ≤ n
-choice_total true n hit miss h m = h
-choice_total false n hit miss h m = m
+    omega (arith, total_cons (image_word (at + 4)) sub, total_cons (plain (Compute Sub Constant) n) (index_from_a ∷ image_word at ∷ add), index_total at rest, total_cons index_from_a (image_word at ∷ add), total_cons (image_word at) add, total_cons (plain (Compute Add Index) 0) (index_from_a ∷ rest), total_cons index_from_a rest)
 
 -- a choice of pieces
 piece_total : (b : Bool) (n : ℕ) (f g : Piece) (exits : Exits) (rest : List Ins) → total (f exits rest) ≤ n → total (g exits rest) ≤ n → total ((if b then f else g) exits rest) ≤ n
@@ -154,7 +141,7 @@ len_then_total test value at f n exits rest some h =
 
 front_total : (test : Test) (value : List ℕ) (at : ℕ) (exits : Exits) (rest : List Ins) → total (front test value at exits rest) ≤ length value + 9 + total rest
 front_total test value at exits rest =
-    omega (arith, len_then_total test value at (from_start at (same_bytes 0 value)) (length value + 6) exits rest (omega arith) (omega (arith, start_total at (same_bytes 0 value exits rest), bytes_total 0 value exits rest)))
+    omega (arith, len_then_total test value at (from_start at (same_bytes 0 value)) (length value + 6) exits rest (omega arith) (omega (arith, index_total at (same_bytes 0 value exits rest), bytes_total 0 value exits rest)))
 
 ends_total : (value : List ℕ) (at : ℕ) (exits : Exits) (rest : List Ins) → total (ends value at exits rest) ≤ length value + 13 + total rest
 ends_total value at exits rest =
@@ -193,7 +180,7 @@ truth_total : (n : ℕ) (equality : Equality) (truth : Bool) (exits : Exits) (re
 truth_total n equality truth exits rest =
     let word = truth_word truth (exits_for equality exits) rest in
     let at = argument_place n in
-    omega (arith, word_holds at Equal 98 exits.fails (image_word (at + 4) ∷ index_from_a ∷ word), start_total (at + 4) word, truth_word_total truth (exits_for equality exits) rest)
+    omega (arith, word_holds at Equal 98 exits.fails (image_word (at + 4) ∷ index_from_a ∷ word), index_total (at + 4) word, truth_word_total truth (exits_for equality exits) rest)
 
 natural_total : (test : Test) (n : ℕ) (exits : Exits) (rest : List Ins) → total (compare_natural test n exits rest) ≤ 3 + total rest
 natural_total SharesBit n exits rest = fork_total SharesBit (n % 2 ^ 32) exits rest
@@ -206,29 +193,24 @@ compare_total Above (Negative n) exits rest = fork_total AtLeast 0 exits rest
 compare_total AtLeast (Negative n) exits rest = fork_total AtLeast 0 exits rest
 compare_total test (Negative n) exits rest = fork_total Above 0xffffffff exits rest
 
-load_total : (source : NumberSource) (rest : List Ins) → total (number_load source rest) ≤ 2 + total rest
-load_total sources.Length rest =
-    omega (arith, total_cons (plain LoadLength 0) (plain (Compute Sub Constant) 976 ∷ rest), total_cons (plain (Compute Sub Constant) 976) rest)
-load_total (sources.Arg n) rest = omega arith
-load_total sources.Serial rest = omega (arith, total_cons (image_word 968) rest)
-load_total sources.ReplySerial rest = omega (arith, total_cons (image_word 972) rest)
-load_total sources.Flags rest = omega (arith, total_cons (image_word 8) rest)
-load_total sources.BodyLength rest = omega (arith, total_cons (image_word 16) rest)
-load_total sources.Args rest = omega (arith, total_cons (image_word 20) rest)
+number_relates_total : (relation : NumberRelation) (value : Integer) (exits : Exits) (rest : List Ins) → total (number_relates relation value exits rest) ≤ 3 + total rest
+number_relates_total relation value exits rest = compare_total (comparison_of relation) value (exits_for (equality_of relation) exits) rest
 
-compared_total : (source : NumberSource) (relation : NumberRelation) (value : Integer) (exits : Exits) (rest : List Ins) → total (number_compared source relation value exits rest) ≤ 5 + total rest
-compared_total source relation value exits rest =
-    let chosen = exits_for (equality_of relation) exits in
-    omega (arith, load_total source (compare (comparison_of relation) value chosen rest), compare_total (comparison_of relation) value chosen rest)
+word_number_total : (at : ℕ) (relation : NumberRelation) (value : Integer) (exits : Exits) (rest : List Ins) → total (word_number at relation value exits rest) ≤ 4 + total rest
+word_number_total at relation value exits rest =
+    omega (arith, total_cons (image_word at) (number_relates relation value exits rest), number_relates_total relation value exits rest)
 
-header_total : (source : NumberSource) (relation : NumberRelation) (value : Integer) (exits : Exits) (rest : List Ins) → total (header_number source relation value exits rest) ≤ 8 + total rest
-header_total sources.ReplySerial relation value exits rest =
-    omega (arith, word_holds 972 Above 0 exits.fails (number_compared sources.ReplySerial relation value exits rest), compared_total sources.ReplySerial relation value exits rest)
-header_total source relation value exits rest = omega (arith, compared_total source relation value exits rest)
-
-arg_heavy : (relation : NumberRelation) → 64 ≤ arg_weight relation
-arg_heavy numbers.Less = omega arith
-arg_heavy _ = omega arith
+number_total : (source : NumberSource) (relation : NumberRelation) (value : Integer) (exits : Exits) (rest : List Ins) → total (number_code source relation value exits rest) ≤ number_weight source relation + total rest
+number_total sources.Serial relation value exits rest = omega (arith, word_number_total 968 relation value exits rest)
+number_total sources.ReplySerial relation value exits rest =
+    omega (arith, word_holds 972 Above 0 exits.fails (word_number 972 relation value exits rest), word_number_total 972 relation value exits rest)
+number_total sources.Flags relation value exits rest = omega (arith, word_number_total 8 relation value exits rest)
+number_total sources.BodyLength relation value exits rest = omega (arith, word_number_total 16 relation value exits rest)
+number_total sources.Args relation value exits rest = omega (arith, word_number_total 20 relation value exits rest)
+number_total sources.Length relation value exits rest =
+    let compared = number_relates relation value exits rest in
+    omega (arith, total_cons (plain LoadLength 0) (plain (Compute Sub Constant) 976 ∷ compared), total_cons (plain (Compute Sub Constant) 976) compared, number_relates_total relation value exits rest)
+number_total (sources.Arg n) relation value exits rest = arg_number_total (number_of_arg n) relation value exits rest
 
 before_total : (value : List ℕ) (exits : Exits) (rest : List Ins) → total (bytes_before value exits rest) ≤ length value + 4 + total rest
 before_total value exits rest =
@@ -240,16 +222,11 @@ namespace_total separator value at exits rest =
     let byte = indexed_test Byte n Equal separator exits rest in
     let last = end_or separator n at exits rest in
     let bytes = bytes_before value exits last in
-    omega (arith, word_holds (at + 4) AtLeast n exits.fails (image_word at ∷ index_from_a ∷ bytes), start_total at bytes, before_total value exits last, word_fails (at + 4) Equal n exits.holds byte, indexed_total Byte n Equal separator exits rest)
+    omega (arith, word_holds (at + 4) AtLeast n exits.fails (image_word at ∷ index_from_a ∷ bytes), index_total at bytes, before_total value exits last, word_fails (at + 4) Equal n exits.holds byte, indexed_total Byte n Equal separator exits rest)
 
 within_total : (value : List ℕ) (at : ℕ) (exits : Exits) (rest : List Ins) → total (path_within value at exits rest) ≤ length value + 16 + total rest
 within_total value at exits rest =
     piece_total (bytes_eq value (47 ∷ [])) (length value + 16 + total rest) (has_len AtLeast 0 at) (in_namespace 47 value at) exits rest (omega (arith, word_total (at + 4) AtLeast 0 exits rest)) (namespace_total 47 value at exits rest)
-
--- what the parts of a path weigh
-abbrev weight_of_parts : List (List ℕ) → ℕ
-weight_of_parts [] = 0
-weight_of_parts (part ∷ parts) = length part + 10 + weight_of_parts parts
 
 part_total : (test : Test) (at place : ℕ) (part : List ℕ) (exits : Exits) (rest : List Ins) → total (part_test test at place part exits rest) ≤ length part + 7 + total rest
 part_total test at place part exits rest =
@@ -260,31 +237,16 @@ inner_total at place part exits later =
     let ended = has_len Equal (place + length part) at (fails_next exits later) later in
     omega (arith, part_total AtLeast at place part (holds_next exits ended) ended, word_fails (at + 4) Equal (place + length part) exits.holds later)
 
-follow_total : (at place : ℕ) (parts : List (List ℕ)) (exits : Exits) (rest : List Ins) → total (follow_parts at place parts exits rest) ≤ weight_of_parts parts + total rest
+follow_total : (at place : ℕ) (parts : List (List ℕ)) (exits : Exits) (rest : List Ins) → total (follow_parts at place parts exits rest) ≤ weight_of_parts 10 parts + total rest
 follow_total at place [] exits rest = omega arith
 follow_total at place (part ∷ []) exits rest =
-    choice_total (ends_with 47 part) (weight_of_parts (part ∷ []) + total rest) (part_test AtLeast at place part exits rest) (part_test Equal at place part exits rest) (omega (arith, part_total AtLeast at place part exits rest)) (omega (arith, part_total Equal at place part exits rest))
+    choice_total (ends_with 47 part) (weight_of_parts 10 (part ∷ []) + total rest) (part_test AtLeast at place part exits rest) (part_test Equal at place part exits rest) (omega (arith, part_total AtLeast at place part exits rest)) (omega (arith, part_total Equal at place part exits rest))
 follow_total at place (part ∷ next ∷ more) exits rest =
     omega (arith, inner_total at place part exits (follow_parts at (place + length part) (next ∷ more) exits rest), follow_total at (place + length part) (next ∷ more) exits rest)
 
-front_weight : (b : ℕ) (parts : List (List ℕ)) (n : ℕ) → weight_of_parts parts ≤ n + 10 → weight_of_parts (with_front b parts) ≤ n + 11
-front_weight b [] n h = omega arith
-front_weight b (part ∷ more) n h = omega arith
-
-slashes_cons : (b : ℕ) (bs : List ℕ) → slashes (b ∷ bs) ≡ (if b == 47 then 1 else 0) + slashes bs
-slashes_cons b bs = sum_by-cons (λ byte. if byte == 47 then 1 else 0) b bs
-
-parts_weight : (value : List ℕ) → weight_of_parts (parts_of value) ≤ length value + 10 * slashes value + 10
-parts_weight [] = omega arith
-parts_weight (b ∷ bs) = rw (slashes_cons b bs) (go (b == 47) (parts_weight bs))
-  where
-    go : (slash : Bool) → weight_of_parts (parts_of bs) ≤ length bs + 10 * slashes bs + 10 → weight_of_parts (if slash then (b ∷ []) ∷ parts_of bs else with_front b (parts_of bs)) ≤ length (b ∷ bs) + 10 * ((if slash then 1 else 0) + slashes bs) + 10
-    go true h = omega arith
-    go false h = omega (arith, front_weight b (parts_of bs) (length bs + 10 * slashes bs) h)
-
 nested_total : (value : List ℕ) (at : ℕ) (exits : Exits) (rest : List Ins) → total (is_nested value at exits rest) ≤ length value + 10 * slashes value + 12 + total rest
 nested_total value at exits rest =
-    piece_total (length value == 0) (length value + 10 * slashes value + 12 + total rest) (has_len Equal 0 at) (from_start at (follow_parts at 0 (parts_of value))) exits rest (omega (arith, word_total (at + 4) Equal 0 exits rest)) (omega (arith, start_total at (follow_parts at 0 (parts_of value) exits rest), follow_total at 0 (parts_of value) exits rest, parts_weight value))
+    piece_total (length value == 0) (length value + 10 * slashes value + 12 + total rest) (has_len Equal 0 at) (from_start at (follow_parts at 0 (parts_of value))) exits rest (omega (arith, word_total (at + 4) Equal 0 exits rest)) (omega (arith, index_total at (follow_parts at 0 (parts_of value) exits rest), follow_total at 0 (parts_of value) exits rest, parts_weight 10 value))
 
 scope_total : (scope : Scope) (equality : Equality) (value : List ℕ) (exits : Exits) (rest : List Ins) → total (scope_code scope equality value exits rest) ≤ scope_weight scope value + total rest
 scope_total PathNamespace equality value exits rest =
@@ -314,8 +276,7 @@ test_total names (tests.IsType n type) exits rest = omega (arith, word_total (ar
 test_total names (tests.Truth n equality truth) exits rest = omega (arith, truth_total (number_of_arg n) equality truth exits rest)
 test_total names (tests.Text source relation value) exits rest = text_total names source relation value exits rest
 test_total names (tests.Within scope equality value) exits rest = scope_total scope equality value exits rest
-test_total names (tests.Number (sources.Arg n) relation value) exits rest = arg_number_total (number_of_arg n) relation value exits rest
-test_total names (tests.Number source relation value) exits rest = header_total source relation value exits rest
+test_total names (tests.Number source relation value) exits rest = number_total source relation value exits rest
 
 mutual
   filter_total : (names : List (List ℕ)) (f : FilterTree) (exits : Exits) (rest : List Ins) → total (filter_code names f exits rest).code ≤ tests_weight f + total rest
@@ -338,7 +299,7 @@ mutual
 
 entry_total : (code : List Ins) (entry : ℕ) → total (from_entry code entry) ≤ 1 + total code
 entry_total code entry =
-    choice_total (nat_lt entry (length code)) (1 + total code) (jump_over (length code - entry) ∷ code) code (omega (arith, total_cons (jump_over (length code - entry)) code)) (omega arith)
+    choice_total (nat_lt entry (length code)) (1 + total code) (jump_over (over code entry) ∷ code) code (omega (arith, total_cons (jump_over (over code entry)) code)) (omega arith)
 
 code_total : (names : List (List ℕ)) (f : FilterTree) → total (program_code names f) ≤ weight_of f
 code_total names f =

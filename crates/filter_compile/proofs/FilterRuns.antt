@@ -1,6 +1,5 @@
 -- `and`, `or` and `not` choose exits: what a filter's program does, from what the pieces of its tests do.
-use Rattle.std.proofs.Common.{◌≡◌, ℕ, List, [], ◌++◌, ◌⊎◌, inl, inr, refl, sym, ap, ◌∙◌}
-use Rattle.std.proofs.lemmas.List.{append_assoc}
+use Rattle.std.proofs.Common.{ℕ, List, [], ◌⊎◌, inl, inr, refl}
 use Rattle.std.specs.Prelude.{Bool}
 use Rattle.bpf_code.specs.declared.instruction.Ins.{Ins}
 use Rattle.message_view.specs.Message.{Message}
@@ -14,12 +13,12 @@ use Rattle.filter_compile.specs.Holds.{TestHolds, FilterHolds, EachHolds, OneHol
 use Rattle.filter_compile.specs.EachTest.{Each, EachIn}
 use Rattle.filter_compile.specs.Pieces.{Piece, turned}
 use Rattle.filter_compile.specs.PieceOfTest.{test_code}
-use Rattle.filter_compile.proofs.TwoExits.{LeadsAt, leads_here, leads_on, Extends, Tests}
+use Rattle.filter_compile.proofs.TwoExits.{Before, joined, LeadsAt, leads_here, leads_on, Extends, Tests}
 
 -- A program that begins anywhere, in front of a rest: from there a run ends as it does from an exit on.
 pub record Chooses (image : List ℕ) (P : Type 0) (f : Exits → List Ins → Entered) : Type 0 where
   pub decided : P ⊎ (P → ⊥)
-  pub extends : (exits : Exits) (rest : List Ins) → (middle : List Ins) × ((f exits rest).code ≡ middle ++ rest)
+  pub extends : (exits : Exits) (rest : List Ins) → Before rest (f exits rest).code
   pub holds : (exits : Exits) (rest : List Ins) (v : ℕ) → LeadsAt rest exits.holds image Any v → P → LeadsAt (f exits rest).code (f exits rest).entry image Any v
   pub fails : (exits : Exits) (rest : List Ins) (v : ℕ) → LeadsAt rest exits.fails image Any v → (P → ⊥) → LeadsAt (f exits rest).code (f exits rest).entry image Any v
 
@@ -66,12 +65,6 @@ and_then f g exits rest = f (record { holds = (g exits rest).entry; fails = exit
 abbrev or_else : (Exits → List Ins → Entered) → (Exits → List Ins → Entered) → Exits → List Ins → Entered
 or_else f g exits rest = f (record { holds = exits.holds; fails = (g exits rest).entry }) (g exits rest).code
 
-abbrev Grows : (Exits → List Ins → Entered) → Type 0
-Grows f = (exits : Exits) (rest : List Ins) → (middle : List Ins) × ((f exits rest).code ≡ middle ++ rest)
-
-grows_both : (a b code more rest : List Ins) → code ≡ a ++ more → more ≡ b ++ rest → code ≡ (a ++ b) ++ rest
-grows_both a b code more rest first next = first ∙ ap (λ (code : List Ins). a ++ code) next ∙ sym (append_assoc a b rest)
-
 chooses_and : (image : List ℕ) (P Q : Type 0) (f g : Exits → List Ins → Entered) → Chooses image P f → Chooses image Q g → Chooses image (P × Q) (and_then f g)
 chooses_and image P Q f g one other = record {
   decided = elim one.decided [
@@ -80,18 +73,15 @@ chooses_and image P Q f g one other = record {
   ];
   extends = λ exits rest.
       let later = g exits rest in
-      let b = other.extends exits rest in
-      let a = one.extends (record { holds = later.entry; fails = exits.fails }) later.code in
-      (a.0 ++ b.0, grows_both a.0 b.0 _ later.code rest a.1 b.1);
+      joined rest later.code _ (one.extends (record { holds = later.entry; fails = exits.fails }) later.code) (other.extends exits rest);
   holds = λ exits rest v leads each.
       let later = g exits rest in
       one.holds (record { holds = later.entry; fails = exits.fails }) later.code v (other.holds exits rest v leads each.1) each.0;
   fails = λ exits rest v leads n.
       let later = g exits rest in
-      let b = other.extends exits rest in
       elim one.decided [
         | inl p ↦ one.holds (record { holds = later.entry; fails = exits.fails }) later.code v (other.fails exits rest v leads (λ q. n (p, q))) p
-        | inr none ↦ one.fails (record { holds = later.entry; fails = exits.fails }) later.code v (leads_on later.code b.0 rest exits.fails image Any v b.1 leads) none
+        | inr none ↦ one.fails (record { holds = later.entry; fails = exits.fails }) later.code v (leads_on later.code rest exits.fails image Any v (other.extends exits rest) leads) none
       ];
 }
 
@@ -103,14 +93,11 @@ chooses_or image P Q f g one other = record {
   ];
   extends = λ exits rest.
       let later = g exits rest in
-      let b = other.extends exits rest in
-      let a = one.extends (record { holds = exits.holds; fails = later.entry }) later.code in
-      (a.0 ++ b.0, grows_both a.0 b.0 _ later.code rest a.1 b.1);
+      joined rest later.code _ (one.extends (record { holds = exits.holds; fails = later.entry }) later.code) (other.extends exits rest);
   holds = λ exits rest v leads each.
       let later = g exits rest in
-      let b = other.extends exits rest in
       elim one.decided [
-        | inl p ↦ one.holds (record { holds = exits.holds; fails = later.entry }) later.code v (leads_on later.code b.0 rest exits.holds image Any v b.1 leads) p
+        | inl p ↦ one.holds (record { holds = exits.holds; fails = later.entry }) later.code v (leads_on later.code rest exits.holds image Any v (other.extends exits rest) leads) p
         | inr none ↦ one.fails (record { holds = exits.holds; fails = later.entry }) later.code v (other.holds exits rest v leads (elim each [ inl p ↦ absurd (none p) | inr q ↦ q ])) none
       ];
   fails = λ exits rest v leads n.

@@ -1,15 +1,13 @@
 -- The pieces that compare a number of the header with an integer.
-use Rattle.std.proofs.Common.{◌≡◌, ℕ, ◌%◌, ◌^◌, ◌<◌, ◌≤◌, Bool, true, false, not, List, [], ◌∷◌, eqb, ◌↔◌, inl, inr, refl, sym, ap, ◌∙◌, arith}
+use Rattle.std.proofs.Common.{◌≡◌, ℕ, ◌%◌, ◌^◌, ◌<◌, ◌≤◌, Bool, true, false, not, List, [], ◌∷◌, eqb, ◌↔◌, refl, sym, ap, ◌∙◌, arith}
 use Rattle.std.specs.Prelude.{nat_lt, bit_and, if◌then◌else◌}
-use Rattle.std.proofs.lemmas.Bool.{false≢true, true≢false, cases_Bool, eqb-true, eq-eqb, ltb-true, ltb-false, leb-true, le-leb}
+use Rattle.std.proofs.lemmas.Bool.{false≢true, eqb-true, eq-eqb, ltb-true, ltb-false, leb-true, le-leb}
 use Rattle.std.proofs.lemmas.Nat.{and_mod, and_le_l}
 use Rattle.bpf_code.specs.declared.instruction.Ins.{Ins}
 use Rattle.bpf_code.specs.declared.operation.Arithmetic.TheVariants.{Sub}
 use Rattle.bpf_code.specs.declared.operation.Op.TheVariants.{Compute, LoadLength}
 use Rattle.bpf_code.specs.declared.operation.Operand.TheVariants.{Constant}
 use Rattle.rule_compile.specs.Code.{plain, image_word}
-use Rattle.filter.specs.declared.test.NumberSource.{NumberSource}
-use Rattle.filter.specs.declared.test.NumberSource.TheVariants as sources
 use Rattle.bpf_code.specs.declared.operation.Test.{Test}
 use Rattle.bpf_code.specs.declared.operation.Test.TheVariants.{Equal, Above, AtLeast, SharesBit}
 use Rattle.bpf_code.specs.Effects.{passes}
@@ -17,23 +15,16 @@ use Rattle.rule_compile.proofs.Pieces.{RunsTo, Leads, Any}
 use Rattle.filter.specs.declared.integer.Integer.{Integer}
 use Rattle.filter.specs.declared.integer.Integer.TheVariants.{Natural, Negative}
 use Rattle.filter.specs.declared.test.NumberRelation.{NumberRelation}
-use Rattle.filter.specs.declared.test.NumberRelation.TheVariants as numbers
-use Rattle.filter_compile.specs.Holds.{Says, is_less, shares, natural, NumberRelates}
+use Rattle.filter_compile.specs.Holds.{natural, NumberRelates}
 use Rattle.filter_compile.specs.Pieces.{Piece, fork}
-use Rattle.filter_compile.specs.TestCode.{says, comparison_of, equality_of, compare, compare_natural, number_load, number_compared}
+use Rattle.filter_compile.specs.TestCode.{says, comparison_of, equality_of, compare, compare_natural, number_relates, word_number, message_len}
 use Rattle.filter_compile.proofs.TwoExits.{Extends, extends_choice, extends_more, Tests, tests_same, tests_loaded}
 use Rattle.filter_compile.proofs.Fields.{tests_says, extends_says}
+use Rattle.filter_compile.proofs.TypeIntegers.{Compared, relation_says, less_false}
 
 -- instructions that make A a number
 abbrev pub Loads : List ℕ → ℕ → (List Ins → List Ins) → Type 0
 Loads image n load = (rest : List Ins) (v : ℕ) → ((x : ℕ) → Any x → RunsTo rest image n x v) → Leads (load rest) image Any v
-
--- what a comparison says of a number and an integer
-abbrev pub Compares : Test → ℕ → Integer → Type 0
-Compares Equal n value = Natural n ≡ value
-Compares Above n value = is_less value (Natural n) ≡ true
-Compares AtLeast n value = is_less (Natural n) value ≡ false
-Compares SharesBit n value = shares n value ≡ true
 
 module _ (image : List ℕ) (n : ℕ) (load : List Ins → List Ins) (small : n < 2 ^ 32) (loads : Loads image n load) where
   tests_fork : (test : Test) (k : ℕ) → Tests image Any (passes test n k ≡ true) (λ exits rest. load (fork test k exits rest))
@@ -60,49 +51,29 @@ module _ (image : List ℕ) (n : ℕ) (load : List Ins → List Ins) (small : n 
       let f : bit_and n k % 2 ^ 32 ≡ bit_and n k = omega arith in
       ap (λ (a : ℕ). bit_and a (k % 2 ^ 32)) (sym e) ∙ sym (and_mod n k 32) ∙ f
 
-  tests_natural : (test : Test) (k : ℕ) → Tests image Any (Compares test n (Natural k)) (λ exits rest. load (compare_natural test k exits rest))
+  tests_natural : (test : Test) (k : ℕ) → Tests image Any (Compared test (natural n) (Natural k)) (λ exits rest. load (compare_natural test k exits rest))
   tests_natural Equal k =
       tests_in_range Equal k (Natural n ≡ Natural k) (λ e. ap Natural (eqb-true n k e), λ e. let same : n ≡ k = cc in eq-eqb n k same) (λ less e. let same : n ≡ k = cc in omega arith) (nat_lt k (2 ^ 32)) refl
   tests_natural Above k =
       tests_in_range Above k (nat_lt k n ≡ true) (λ e. e, λ e. e) (λ less e. let h = ltb-true k n e in omega arith) (nat_lt k (2 ^ 32)) refl
   tests_natural AtLeast k =
-      tests_in_range AtLeast k (nat_lt n k ≡ false) (λ e. not_less k (leb-true k n e), λ e. le-leb k n (ltb-false n k e)) (λ less e. let h = ltb-false n k e in omega arith) (nat_lt k (2 ^ 32)) refl
-    where
-      not_less : (k : ℕ) → k ≤ n → nat_lt n k ≡ false
-      not_less k le = elim (cases_Bool (nat_lt n k)) [ inl less ↦ absurd (let h = ltb-true n k less in omega arith) | inr other ↦ other ]
+      tests_in_range AtLeast k (nat_lt n k ≡ false) (λ e. (less_false n k).1 (leb-true k n e), λ e. le-leb k n ((less_false n k).0 e)) (λ less e. let h = (less_false n k).0 e in omega arith) (nat_lt k (2 ^ 32)) refl
   tests_natural SharesBit k =
       let e : not (eqb (bit_and n (k % 2 ^ 32)) 0) ≡ not (eqb (bit_and n k) 0) = ap (λ (bits : ℕ). not (eqb bits 0)) (same_bits k) in
       tests_same image Any _ _ (λ exits rest. load (fork SharesBit (k % 2 ^ 32) exits rest)) (λ h. sym e ∙ h, λ h. e ∙ h) (tests_fork SharesBit (k % 2 ^ 32))
 
-  tests_compare : (test : Test) (value : Integer) → Tests image Any (Compares test n value) (λ exits rest. load (compare test value exits rest))
+  tests_compare : (test : Test) (value : Integer) → Tests image Any (Compared test (natural n) value) (λ exits rest. load (compare test value exits rest))
   tests_compare test (Natural k) = tests_natural test k
   tests_compare Equal (Negative k) = tests_never (Natural n ≡ Negative k) (λ e. cc)
   tests_compare Above (Negative k) = tests_always (true ≡ true) refl
   tests_compare AtLeast (Negative k) = tests_always (false ≡ false) refl
   tests_compare SharesBit (Negative k) = tests_never (false ≡ true) false≢true
 
-  not_false : (b : Bool) → (b ≡ false → ⊥) ↔ (b ≡ true)
-  not_false true = (λ _. refl, λ _ e. true≢false e)
-  not_false false = (λ n. absurd (n refl), λ e. absurd (false≢true e))
-
-  not_true : (b : Bool) → (b ≡ true → ⊥) ↔ (b ≡ false)
-  not_true true = (λ n. absurd (n refl), λ e. absurd (true≢false e))
-  not_true false = (λ _. refl, λ _ e. false≢true e)
-
-  relates : (relation : NumberRelation) (value : Integer) → Says (equality_of relation) (Compares (comparison_of relation) n value) ↔ NumberRelates relation (natural n) value
-  relates numbers.Equal value = (λ e. e, λ e. e)
-  relates numbers.Unequal value = (λ e. e, λ e. e)
-  relates numbers.Less value = not_false (is_less (Natural n) value)
-  relates numbers.AtMost value = not_true (is_less value (Natural n))
-  relates numbers.Greater value = (λ e. e, λ e. e)
-  relates numbers.AtLeast value = (λ e. e, λ e. e)
-  relates numbers.Shares value = (λ e. e, λ e. e)
-
   -- the number is in the relation to an integer
-  pub tests_number : (relation : NumberRelation) (value : Integer) → Tests image Any (NumberRelates relation (natural n) value) (λ exits rest. load (says (equality_of relation) (compare (comparison_of relation) value) exits rest))
+  pub tests_number : (relation : NumberRelation) (value : Integer) → Tests image Any (NumberRelates relation (natural n) value) (λ exits rest. load (number_relates relation value exits rest))
   tests_number relation value =
       let piece : Piece = λ exits rest. load (compare (comparison_of relation) value exits rest) in
-      tests_same image Any _ _ (says (equality_of relation) piece) (relates relation value) (tests_says image Any (equality_of relation) (Compares (comparison_of relation) n value) piece (tests_compare (comparison_of relation) value))
+      tests_same image Any _ _ (says (equality_of relation) piece) (relation_says relation (natural n) value) (tests_says image Any (equality_of relation) (Compared (comparison_of relation) (natural n) value) piece (tests_compare (comparison_of relation) value))
 
 -- ---- pieces stand in front of their rest
 
@@ -120,17 +91,13 @@ extends_compare Above (Negative n) = extends_fork AtLeast 0
 extends_compare AtLeast (Negative n) = extends_fork AtLeast 0
 extends_compare test (Negative n) = extends_fork Above 0xffffffff
 
-extends_load : (source : NumberSource) (f : Piece) → Extends f → Extends (λ exits rest. number_load source (f exits rest))
-extends_load sources.Length f extends =
-    extends_more (plain LoadLength 0) _ (extends_more (plain (Compute Sub Constant) 976) f extends)
-extends_load (sources.Arg n) f extends = extends
-extends_load sources.Serial f extends = extends_more (image_word 968) f extends
-extends_load sources.ReplySerial f extends = extends_more (image_word 972) f extends
-extends_load sources.Flags f extends = extends_more (image_word 8) f extends
-extends_load sources.BodyLength f extends = extends_more (image_word 16) f extends
-extends_load sources.Args f extends = extends_more (image_word 20) f extends
+extends_relates : (relation : NumberRelation) (value : Integer) → Extends (number_relates relation value)
+extends_relates relation value =
+    extends_says (equality_of relation) (compare (comparison_of relation) value) (extends_compare (comparison_of relation) value)
 
-pub extends_compared : (source : NumberSource) (relation : NumberRelation) (value : Integer) → Extends (number_compared source relation value)
-extends_compared source relation value =
-    let f : Piece = compare (comparison_of relation) value in
-    extends_load source (says (equality_of relation) f) (extends_says (equality_of relation) f (extends_compare (comparison_of relation) value))
+pub extends_word_number : (at : ℕ) (relation : NumberRelation) (value : Integer) → Extends (word_number at relation value)
+extends_word_number at relation value = extends_more (image_word at) (number_relates relation value) (extends_relates relation value)
+
+pub extends_message_len : (relation : NumberRelation) (value : Integer) → Extends (message_len relation value)
+extends_message_len relation value =
+    extends_more (plain LoadLength 0) _ (extends_more (plain (Compute Sub Constant) 976) (number_relates relation value) (extends_relates relation value))

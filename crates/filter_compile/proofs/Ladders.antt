@@ -23,9 +23,7 @@ Ordered SharesBit n k = ⊥
 pub extends_rung : (test : Test) (width : Width) (at key : ℕ) (f : Piece) → Extends f → Extends (rung test width at key f)
 extends_rung Equal width at key f extends = extends_both _ f (extends_indexed width at Equal key) extends
 extends_rung SharesBit width at key f extends = extends_either _ f (extends_indexed width at SharesBit key) extends
-extends_rung Above width at key f extends =
-    extends_either (indexed_test width at Above key) (both (indexed_test width at Equal key) f) (extends_indexed width at Above key) (extends_both _ f (extends_indexed width at Equal key) extends)
-extends_rung AtLeast width at key f extends =
+extends_rung _ width at key f extends =
     extends_either (indexed_test width at Above key) (both (indexed_test width at Equal key) f) (extends_indexed width at Above key) (extends_both _ f (extends_indexed width at Equal key) extends)
 
 -- a comparison of a digit

@@ -33,5 +33,4 @@ pub mod ArgEntries
 pub mod ArgKinds
 pub mod ArgBigKinds
 pub mod ArgNumbers
-pub mod Lengths
 pub mod NearLength

@@ -26,11 +26,11 @@ use Rattle.filter.specs.declared.test.NumberRelation.TheVariants as numbers
 use Rattle.filter.specs.Weights.{arg_weight}
 use Rattle.filter_compile.specs.ArgCode.{rung_code, ladder, wide, bits_of, is_inside, outside, way, sign_step, sign_ways, top_at, signs, Sized, littles, bigs, code_of, dispatch, unsigned_types, signed_types, typed, fails_jump, jumps, near_exits, compared, arg_number}
 use Rattle.filter_compile.specs.Entered.{Entered}
-use Rattle.filter_compile.specs.Pieces.{fork, word_test, indexed_test, holds_next, fails_next}
+use Rattle.filter_compile.specs.Pieces.{over, fork, word_test, indexed_test, holds_next, fails_next}
 use Rattle.filter_compile.specs.TestCode.{exits_for, comparison_of, equality_of}
-use Rattle.filter_compile.specs.declared.arg_number.IntegerType.{IntegerType}
+use Rattle.filter_compile.specs.declared.integer_type.IntegerType.{IntegerType}
 use Rattle.filter_compile.specs.declared.exits.Exits.{Exits}
-use Rattle.filter_compile.proofs.Lengths.{total, total_cons, branch_total}
+use Rattle.rule_compile.proofs.Lengths.{total, total_cons, branch_total}
 use Rattle.filter_compile.proofs.TypeIntegers.{less_false}
 
 -- how many instructions a digit takes, and a sign
@@ -46,15 +46,11 @@ sign_steps _ = 2
 
 few_steps : (test : Test) → steps test ≤ 4
 few_steps Equal = omega arith
-few_steps SharesBit = omega arith
-few_steps Above = omega arith
-few_steps AtLeast = omega arith
+few_steps _ = omega arith
 
 few_signs : (test : Test) → sign_steps test ≤ 2
 few_signs Equal = omega arith
-few_signs SharesBit = omega arith
-few_signs Above = omega arith
-few_signs AtLeast = omega arith
+few_signs _ = omega arith
 
 -- how many the higher digits take
 abbrev rungs : ℕ → ℕ → ℕ
@@ -85,6 +81,11 @@ near_count a b first second =
     let p = (less_false 255 a).1 first in
     let q = (less_false 255 b).1 second in
     rw (p, q) refl
+
+-- a place in front of the rest
+over_near : (code rest : List Ins) (place : ℕ) → length rest ≤ place → over code place ≤ length code - length rest
+unfolding over
+over_near code rest place fine = omega (arith, fine)
 
 -- A code in front of the rest, longer by at most n instructions, islands among them.
 record Near (rest code : List Ins) (n : ℕ) : Type 0 where
@@ -123,10 +124,10 @@ module _ (rest : List Ins) where
   fork_near : (test : Test) (k : ℕ) (exits : Exits) (code : List Ins) (n : ℕ) → FineExits exits → Near rest code n → n ≤ 255 → Near rest (fork test k exits code) (n + 1)
   fork_near test k exits code n fine near small =
       let size = near.size in
-      let hit = length code - exits.holds in
-      let miss = length code - exits.fails in
-      let a = span_near code n hit near (omega (arith, fine.0)) in
-      let b = span_near code n miss near (omega (arith, fine.1)) in
+      let hit = over code exits.holds in
+      let miss = over code exits.fails in
+      let a = span_near code n hit near (over_near code rest exits.holds fine.0) in
+      let b = span_near code n miss near (over_near code rest exits.fails fine.1) in
       let p : span hit (sizes_of code) ≤ 255 = omega (arith, a, small) in
       let q : span miss (sizes_of code) ≤ 255 = omega (arith, b, small) in record {
         front = branch test k hit miss ∷ near.front;
@@ -154,14 +155,10 @@ module _ (rest : List Ins) where
       indexed_near width at Equal key (holds_next exits code) code n (long code n near, fine.1) near (omega (arith, small))
   rung_near SharesBit width at key exits code n fine near small =
       indexed_near width at SharesBit key (fails_next exits code) code n (fine.0, long code n near) near (omega (arith, small))
-  rung_near Above width at key exits code n fine near small =
+  rung_near test width at key exits code n fine near small =
       let same = indexed_test width at Equal key (holds_next exits code) code in
       let first = indexed_near width at Equal key (holds_next exits code) code n (long code n near, fine.1) near (omega (arith, small)) in
-      at_most (rung_code Above width at key exits code) (n + 2 + 2) (n + 4) (indexed_near width at Above key (fails_next exits same) same (n + 2) (fine.0, long same (n + 2) first) first (omega (arith, small))) (omega arith)
-  rung_near AtLeast width at key exits code n fine near small =
-      let same = indexed_test width at Equal key (holds_next exits code) code in
-      let first = indexed_near width at Equal key (holds_next exits code) code n (long code n near, fine.1) near (omega (arith, small)) in
-      at_most (rung_code AtLeast width at key exits code) (n + 2 + 2) (n + 4) (indexed_near width at Above key (fails_next exits same) same (n + 2) (fine.0, long same (n + 2) first) first (omega (arith, small))) (omega arith)
+      at_most (rung_code test width at key exits code) (n + 2 + 2) (n + 4) (indexed_near width at Above key (fails_next exits same) same (n + 2) (fine.0, long same (n + 2) first) first (omega (arith, small))) (omega arith)
 
   ladder_near : (test : Test) (bits j : ℕ) (exits : Exits) (code : List Ins) (n : ℕ) → FineExits exits → Near rest code n → n + 4 * j ≤ 240 → Near rest (ladder test bits j exits code) (n + 2 + rungs j (steps test))
   ladder_near test bits zero exits code n fine near small =
@@ -181,9 +178,7 @@ module _ (rest : List Ins) where
   sign_near : (test : Test) (value : Integer) (at : ℕ) (exits : Exits) (entry : ℕ) (code : List Ins) (n : ℕ) → FineExits exits → Fine entry → Near rest code n → n ≤ 250 → Near rest (sign_step test value at exits entry code).code (n + sign_steps test) × Fine (sign_step test value at exits entry code).entry
   sign_near Equal value at exits entry code n fine here near small = (at_most code n (n + 0) near (omega arith), here)
   sign_near SharesBit value at exits entry code n fine here near small = (at_most code n (n + 0) near (omega arith), here)
-  sign_near Above value at exits entry code n fine here near small =
-      let all = indexed_near Byte at AtLeast 128 (sign_ways value exits entry) code n (fine_ways value exits entry fine here) near (omega (arith, small)) in (all, long _ (n + 2) all)
-  sign_near AtLeast value at exits entry code n fine here near small =
+  sign_near _ value at exits entry code n fine here near small =
       let all = indexed_near Byte at AtLeast 128 (sign_ways value exits entry) code n (fine_ways value exits entry fine here) near (omega (arith, small)) in (all, long _ (n + 2) all)
 
   fine_if : (b : Bool) (x y : ℕ) → Fine x → Fine y → Fine (if b then x else y)
@@ -192,19 +187,13 @@ module _ (rest : List Ins) where
 
   fine_outside : (test : Test) (value : Integer) (exits : Exits) → FineExits exits → Fine (outside test value exits)
   fine_outside Equal value exits fine = fine.1
-  fine_outside Above (Natural v) exits fine = fine.1
-  fine_outside Above (Negative v) exits fine = fine.0
-  fine_outside AtLeast (Natural v) exits fine = fine.1
-  fine_outside AtLeast (Negative v) exits fine = fine.0
-  fine_outside SharesBit (Natural v) exits fine = fine.1
-  fine_outside SharesBit (Negative v) exits fine = fine.0
+  fine_outside _ (Natural v) exits fine = fine.1
+  fine_outside _ (Negative v) exits fine = fine.0
 
   fine_way : (test : Test) (code : ℕ) (value : Integer) (exits : Exits) (entry : ℕ) → FineExits exits → Fine entry → Fine (way test code value exits entry)
   fine_way SharesBit code (Natural v) exits entry fine here = here
   fine_way SharesBit code (Negative v) exits entry fine here = fine.1
-  fine_way Equal code value exits entry fine here = fine_if (is_inside code value) entry (outside Equal value exits) here (fine_outside Equal value exits fine)
-  fine_way Above code value exits entry fine here = fine_if (is_inside code value) entry (outside Above value exits) here (fine_outside Above value exits fine)
-  fine_way AtLeast code value exits entry fine here = fine_if (is_inside code value) entry (outside AtLeast value exits) here (fine_outside AtLeast value exits fine)
+  fine_way test code value exits entry fine here = fine_if (is_inside code value) entry (outside test value exits) here (fine_outside test value exits fine)
 
   abbrev FineTypes : List (IntegerType × ℕ) → Type 0
   FineTypes [] = Unit {0}
@@ -269,8 +258,8 @@ module _ (rest : List Ins) where
   jumps_near : (exits : Exits) → Near rest (jumps exits rest) 2
   jumps_near exits =
       let none : Near rest rest 0 = record { front = []; is = refl; size = omega arith } in
-      let one = plain_near (jump_over (length rest - exits.fails)) rest 0 none refl in
-      at_most (jumps exits rest) (0 + 1 + 1) 2 (plain_near (jump_over (length (fails_jump exits rest) - exits.holds)) (fails_jump exits rest) (0 + 1) one refl) (omega arith)
+      let one = plain_near (jump_over (over rest exits.fails)) rest 0 none refl in
+      at_most (jumps exits rest) (0 + 1 + 1) 2 (plain_near (jump_over (over (fails_jump exits rest) exits.holds)) (fails_jump exits rest) (0 + 1) one refl) (omega arith)
 
   fine_for : (equality : Equality) (exits : Exits) → FineExits exits → FineExits (exits_for equality exits)
   fine_for equalities.Equal exits fine = fine
@@ -307,12 +296,7 @@ module _ (rest : List Ins) where
 
 weighs : (relation : NumberRelation) → 46 + 8 * steps (comparison_of relation) + 6 * sign_steps (comparison_of relation) ≤ arg_weight relation
 weighs numbers.Equal = omega arith
-weighs numbers.Unequal = omega arith
-weighs numbers.Less = omega arith
-weighs numbers.AtMost = omega arith
-weighs numbers.Greater = omega arith
-weighs numbers.AtLeast = omega arith
-weighs numbers.Shares = omega arith
+weighs _ = omega arith
 
 pub arg_number_total : (at : ℕ) (relation : NumberRelation) (value : Integer) (exits : Exits) (rest : List Ins) → total (arg_number at relation value exits rest) ≤ arg_weight relation + total rest
 arg_number_total at relation value exits rest = let near = piece_near rest at relation value exits in let size = near.size in omega (arith, size, weighs relation)

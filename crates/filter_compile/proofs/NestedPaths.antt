@@ -1,14 +1,12 @@
 -- What the pieces of a path's test do: they test whether the paths are nested.
-use Rattle.std.proofs.Common.{◌≡◌, ◌≢◌, ℕ, zero, suc, ◌+◌, ◌-◌, ◌<◌, ◌≤◌, Bool, true, false, List, [], ◌∷◌, ◌++◌, length, get_or, take, drop, Option, Some, None, ◌⊎◌, ◌↔◌, inl, inr, refl, sym, ap, ◌∙◌, arith, subst, length-take, length-drop}
-use Rattle.std.specs.Prelude.{◌==◌, ◌||◌, IsSomeAnd, IfSome, MatchBool, option_map, if◌then◌else◌}
-use Rattle.std.proofs.lemmas.Bool.{false≢true, cases_Bool, eqb-true, ne_eqb}
-use Rattle.std.proofs.lemmas.List.{get_or-drop, drop-drop}
+use Rattle.std.proofs.Common.{◌≡◌, ◌≢◌, ℕ, suc, ◌+◌, ◌-◌, ◌<◌, ◌≤◌, Bool, true, false, List, [], ◌∷◌, length, get_or, take, drop, Option, Some, None, ◌⊎◌, ◌↔◌, inl, inr, refl, ap, ◌∙◌, arith, subst, length-drop}
+use Rattle.std.specs.Prelude.{◌==◌, IsSomeAnd, IfSome, MatchBool, if◌then◌else◌}
+use Rattle.std.proofs.lemmas.Bool.{ne_eqb}
 use Rattle.bpf_code.specs.declared.instruction.Ins.{Ins}
 use Rattle.bpf_code.specs.declared.operation.Test.{Test}
 use Rattle.bpf_code.specs.declared.operation.Test.TheVariants.{Equal, AtLeast}
 use Rattle.message_value.specs.Arguments.{Argument}
 use Rattle.message_value.specs.Bytes.{AreBytes}
-use Rattle.message_value.specs.Fits.{is_text_code}
 use Rattle.match_key.specs.declared.relation.Relation.TheVariants.{NestedPath}
 use Rattle.match_rule.specs.Arguments.{text_in}
 use Rattle.match_rule.specs.Bytes.{ends_with}
@@ -17,14 +15,17 @@ use Rattle.summary.specs.declared.edition.Edition.TheVariants.{Two}
 use Rattle.summary.specs.Layout.{argument_place}
 use Rattle.summary.specs.Shown.{Tells, ShowsArgument}
 use Rattle.rule_compile.proofs.Bytes.{Stands, At}
-use Rattle.rule_compile.proofs.FolderParts.{first_part, only_part}
+use Rattle.rule_compile.proofs.Arguments.{compared_text_type, compared_argument, shown_text}
+use Rattle.rule_compile.proofs.FolderParts.{some_parts, part_before, part_end, part_last}
+use Rattle.rule_compile.proofs.NestedPaths.{bytes_more, bytes_none}
 use Rattle.rule_compile.proofs.NestedTexts.{AlongParts, nested_follow_parts, nested_empty}
 use Rattle.rule_compile.proofs.Pieces.{Any}
+use Rattle.rule_compile.proofs.TextArguments.{IsText}
 use Rattle.rule_compile.specs.Folders.{with_front, parts_of}
 use Rattle.filter_compile.specs.declared.exits.Exits.{Exits}
 use Rattle.filter_compile.specs.Pieces.{Piece, both, either, has_len, from_start, same_bytes, part_test, inner_part, follow_parts, is_nested}
 use Rattle.filter_compile.specs.TestCode.{has_type}
-use Rattle.filter_compile.proofs.TwoExits.{Extends, extends_both, extends_either, extends_choice, extends_word, extends_from_start, Tests, tests_same, tests_then, tests_else, tests_both, tests_from_start}
+use Rattle.filter_compile.proofs.TwoExits.{Before, Extends, extends_both, extends_either, extends_choice, extends_word, extends_from_start, Tests, tests_same, tests_then, tests_else, tests_both, tests_from_start}
 use Rattle.filter_compile.proofs.Fields.{tests_type}
 use Rattle.filter_compile.proofs.Texts.{tests_len_is, tests_len_from}
 use Rattle.filter_compile.proofs.Units.{extends_same_bytes, tests_same_bytes}
@@ -34,13 +35,6 @@ use Rattle.filter_compile.proofs.Units.{extends_same_bytes, tests_same_bytes}
 abbrev PartsFit : List (List ℕ) → Type 0
 PartsFit [] = Unit {0}
 PartsFit (part ∷ more) = (AreBytes part × (0 < length part)) × PartsFit more
-
-bytes_more : (b : ℕ) (bs : List ℕ) → b < 256 → AreBytes bs → AreBytes (b ∷ bs)
-bytes_more b bs small are zero = small
-bytes_more b bs small are (suc i) = are i
-
-bytes_none : AreBytes []
-bytes_none i = omega arith
 
 parts_front : (b : ℕ) (parts : List (List ℕ)) → b < 256 → PartsFit parts → PartsFit (with_front b parts)
 parts_front b [] small fit = ((bytes_more b [] small bytes_none, omega arith), tt)
@@ -53,18 +47,6 @@ parts_fit (b ∷ bs) are = go (b == 47) (parts_fit bs (λ i. are (suc i)))
     go : (slash : Bool) → PartsFit (parts_of bs) → PartsFit (if slash then (b ∷ []) ∷ parts_of bs else with_front b (parts_of bs))
     go true fit = ((bytes_more b [] (are 0) bytes_none, omega arith), fit)
     go false fit = parts_front b (parts_of bs) (are 0) fit
-
-some_front : (b : ℕ) (parts : List (List ℕ)) → 0 < length (with_front b parts)
-some_front b [] = omega arith
-some_front b (part ∷ more) = omega arith
-
-some_parts : (text : List ℕ) → 0 < length text → 0 < length (parts_of text)
-some_parts [] h = absurd (omega (arith, h))
-some_parts (b ∷ bs) h = go (b == 47)
-  where
-    go : (slash : Bool) → 0 < length (if slash then (b ∷ []) ∷ parts_of bs else with_front b (parts_of bs))
-    go true = omega arith
-    go false = some_front b (parts_of bs)
 
 -- ---- a part
 
@@ -92,7 +74,7 @@ extends_follow : (at place : ℕ) (parts : List (List ℕ)) → 0 < length parts
 extends_follow at place [] some = absurd (omega (arith, some))
 extends_follow at place (part ∷ []) some = λ exits rest. go exits rest (ends_with 47 part)
   where
-    go : (exits : Exits) (rest : List Ins) (slash : Bool) → (middle : List Ins) × ((if slash then part_test AtLeast at place part exits rest else part_test Equal at place part exits rest) ≡ middle ++ rest)
+    go : (exits : Exits) (rest : List Ins) (slash : Bool) → Before rest (if slash then part_test AtLeast at place part exits rest else part_test Equal at place part exits rest)
     go exits rest true = extends_part AtLeast at place part exits rest
     go exits rest false = extends_part Equal at place part exits rest
 extends_follow at place (part ∷ next ∷ more) some =
@@ -143,35 +125,13 @@ tests_is_nested image at text (b ∷ bs) tells are =
 
 -- ---- of an argument of type `s` or `o`
 
-abbrev IsPath : ℕ → Type 0
-IsPath code = (code ≡ 115) ⊎ (code ≡ 111)
+path_argument : (a : Argument) (Q : List ℕ → Type 0) → (IsText a.code × IsSomeAnd a.text Q) ↔ IsSomeAnd (compared_text NestedPath (text_in (Some a))) Q
+path_argument a Q =
+    let type = compared_text_type a.code in
+    let text = compared_argument NestedPath a Q in
+    (λ each. text.0 (type.0 each.0, each.1), λ some. let each = text.1 some in (type.1 each.0, each.1))
 
-path_type : (code : ℕ) → IsPath code ↔ ((code == 115 || code == 111) ≡ true)
-path_type code = (
-  λ path. elim path [ inl e ↦ rw e refl | inr e ↦ rw e refl ],
-  λ e. elim (cases_Bool (code == 115)) [ inl string ↦ inl (eqb-true code 115 string) | inr other ↦ inr (eqb-true code 111 (rw other at e)) ],
-)
-
-path_text : (code : ℕ) → IsPath code → is_text_code code ≡ true
-path_text code path = elim path [ inl e ↦ rw e refl | inr e ↦ rw e refl ]
-
-path_argument : (a : Argument) (Q : List ℕ → Type 0) → (IsPath a.code × IsSomeAnd a.text Q) ↔ IsSomeAnd (compared_text NestedPath (text_in (Some a))) Q
-path_argument a Q = go a.text
-  where
-    go : (t : Option (List ℕ)) → (IsPath a.code × IsSomeAnd t Q) ↔ IsSomeAnd (compared_text NestedPath (option_map {U = ℕ × List ℕ} (λ (text : List ℕ). (a.code, text)) t)) Q
-    go None = (λ each. each.1, λ none. absurd none)
-    go (Some text) = elim (cases_Bool (a.code == 115 || a.code == 111)) [
-      | inl path ↦ rw path (λ each. each.1, λ q. ((path_type a.code).1 path, q))
-      | inr other ↦ rw other (λ each. absurd (false≢true (sym other ∙ (path_type a.code).0 each.0)), λ none. absurd none)
-    ]
-
-shown_text : (a : Argument) (t : List ℕ) (Q : List ℕ → Type 0) → a.text ≡ Some t → Q t ↔ IsSomeAnd a.text Q
-shown_text a t Q is = (
-  λ q. subst (λ (o : Option (List ℕ)). IsSomeAnd o Q) (sym is) q,
-  λ q. subst (λ (o : Option (List ℕ)). IsSomeAnd o Q) is q,
-)
-
-pub tests_path_argument : (image : List ℕ) (n : ℕ) (o : Option Argument) (Q : List ℕ → Type 0) (f : Piece) → ShowsArgument Two image (argument_place n) o → ((a : Argument) → o ≡ Some a → is_text_code a.code ≡ true → (t : List ℕ) × (a.text ≡ Some t)) → Extends f → ((text : List ℕ) → Tells image (argument_place n + 4) text → Tests image Any (Q text) f) → Tests image Any (IsSomeAnd (compared_text NestedPath (text_in o)) Q) (both (either (has_type n 115) (has_type n 111)) f)
+pub tests_path_argument : (image : List ℕ) (n : ℕ) (o : Option Argument) (Q : List ℕ → Type 0) (f : Piece) → ShowsArgument Two image (argument_place n) o → ((a : Argument) → o ≡ Some a → IsText a.code → (t : List ℕ) × (a.text ≡ Some t)) → Extends f → ((text : List ℕ) → Tells image (argument_place n + 4) text → Tests image Any (Q text) f) → Tests image Any (IsSomeAnd (compared_text NestedPath (text_in o)) Q) (both (either (has_type n 115) (has_type n 111)) f)
 tests_path_argument image n None Q f shows has extends t =
     let types = either (has_type n 115) (has_type n 111) in
     let none = tests_else image Any ⊥ ⊥ (has_type n 115) (has_type n 111) (tests_type image Any n 115 None shows (omega arith)) (extends_word (argument_place n) Equal 111) (λ _. tests_type image Any n 111 None shows (omega arith)) in
@@ -179,9 +139,9 @@ tests_path_argument image n None Q f shows has extends t =
 tests_path_argument image n (Some a) Q f shows has extends t =
     let types = either (has_type n 115) (has_type n 111) in
     let path = tests_else image Any (a.code ≡ 115) (a.code ≡ 111) (has_type n 115) (has_type n 111) (tests_type image Any n 115 (Some a) shows (omega arith)) (extends_word (argument_place n) Equal 111) (λ _. tests_type image Any n 111 (Some a) shows (omega arith)) in
-    tests_same image Any (IsPath a.code × IsSomeAnd a.text Q) _ (both types f) (path_argument a Q)
-    (tests_then image Any (IsPath a.code) (IsSomeAnd a.text Q) types f path extends (λ is.
-    let h = has a refl (path_text a.code is) in
+    tests_same image Any (IsText a.code × IsSomeAnd a.text Q) _ (both types f) (path_argument a Q)
+    (tests_then image Any (IsText a.code) (IsSomeAnd a.text Q) types f path extends (λ is.
+    let h = has a refl (is) in
     tests_same image Any (Q h.0) (IsSomeAnd a.text Q) f (shown_text a h.0 Q h.1) (t h.0 (subst (λ (o : Option (List ℕ)). IfSome o (Tells image (argument_place n + 4))) h.1 shows.text))))
 
 -- ---- the parts cut off one by one
@@ -193,25 +153,14 @@ follow_more at place part (next ∷ more) exits rest h = refl
 -- the part from a start up to the end that another part begins at
 pub follow_before : (at start end : ℕ) (text : List ℕ) (exits : Exits) (rest : List Ins) → start < end → end < length text → ((k : ℕ) → start ≤ k → k + 1 < end → get_or text k 0 ≢ 47) → get_or text (end - 1) 0 ≡ 47 → follow_parts at start (parts_of (drop start text)) exits rest ≡ inner_part at start (take (end - start) (drop start text)) exits (follow_parts at end (parts_of (drop end text)) exits rest)
 follow_before at start end text exits rest before within one slash =
-    let left = drop start text in
-    let n : ℕ = end - start - 1 in
-    let many : length left ≡ length text - start = length-drop start text in
-    let inside : n < length left = omega arith in
-    let none : (k : ℕ) → k < n → get_or left k 0 ≢ 47 = λ k h. rw get_or-drop (one (start + k) (omega arith) (omega (arith, h))) in
-    let last : get_or left n 0 ≡ 47 = get_or-drop start text n 0 ∙ ap (λ (i : ℕ). get_or text i 0) (let e : start + n ≡ end - 1 = omega arith in e) ∙ slash in
-    let size : suc n ≡ end - start = omega arith in
-    let cut : parts_of left ≡ take (suc n) left ∷ parts_of (drop (suc n) left) = first_part left n inside none last in
-    let to : start + suc n ≡ end = omega arith in
-    let same : drop (suc n) left ≡ drop end text = drop-drop (suc n) start text ∙ ap (λ (i : ℕ). drop i text) to in
-    let cut_so : parts_of left ≡ take (end - start) left ∷ parts_of (drop end text) = cut ∙ ap (λ (i : ℕ). take i left ∷ parts_of (drop (suc n) left)) size ∙ ap (λ (others : List ℕ). take (end - start) left ∷ parts_of others) same in
+    let part = take (end - start) (drop start text) in
+    let later = parts_of (drop end text) in
     let some_left : 0 < length (drop end text) = rw length-drop (omega arith) in
-    let here : start + length (take (end - start) left) ≡ end = grind (arith, length-take, length-drop) in
-    ap (λ (parts : List (List ℕ)). follow_parts at start parts exits rest) cut_so ∙ follow_more at start (take (end - start) left) (parts_of (drop end text)) exits rest (some_parts (drop end text) some_left) ∙ ap (λ (i : ℕ). inner_part at start (take (end - start) left) exits (follow_parts at i (parts_of (drop end text)) exits rest)) here
+    ap (λ (parts : List (List ℕ)). follow_parts at start parts exits rest) (part_before start end text before within one slash)
+    ∙ follow_more at start part later exits rest (some_parts (drop end text) some_left)
+    ∙ ap (λ (i : ℕ). inner_part at start part exits (follow_parts at i later exits rest)) (part_end start end text before within)
 
 -- the last part of a text
 pub follow_last : (at start : ℕ) (text : List ℕ) (exits : Exits) (rest : List Ins) → start < length text → ((k : ℕ) → start ≤ k → k + 1 < length text → get_or text k 0 ≢ 47) → follow_parts at start (parts_of (drop start text)) exits rest ≡ follow_parts at start (drop start text ∷ []) exits rest
 follow_last at start text exits rest within one =
-    let left = drop start text in
-    let many : length left ≡ length text - start = length-drop start text in
-    let cut : parts_of left ≡ left ∷ [] = only_part left (omega arith) (λ k h. rw get_or-drop (one (start + k) (omega arith) (omega (arith, h)))) in
-    ap (λ (parts : List (List ℕ)). follow_parts at start parts exits rest) cut
+    ap (λ (parts : List (List ℕ)). follow_parts at start parts exits rest) (part_last start text within one)

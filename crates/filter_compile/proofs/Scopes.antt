@@ -1,8 +1,8 @@
 -- The pieces that compare paths and names by their elements.
-use Rattle.std.proofs.Common.{◌≡◌, ℕ, ◌+◌, ◌<◌, ◌≤◌, Bool, true, false, List, [], ◌∷◌, ◌++◌, length, Option, Some, None, ◌⊎◌, ◌↔◌, inl, inr, refl, sym, ap, ◌∙◌, arith, slice_index, bytes_eq}
+use Rattle.std.proofs.Common.{◌≡◌, ℕ, ◌+◌, ◌<◌, ◌≤◌, Bool, true, false, List, [], ◌∷◌, ◌++◌, length, Option, Some, None, ◌⊎◌, inl, inr, refl, sym, ap, ◌∙◌, arith, slice_index, bytes_eq}
 use Rattle.std.specs.Prelude.{◌==◌, if◌then◌else◌}
-use Rattle.std.proofs.lemmas.Bool.{false≢true, cases_Bool, eqb-true, eqb-false, eq-eqb}
-use Rattle.std.proofs.lemmas.List.{append-nil, append_assoc, get_or_at, length-append, nil_from_length}
+use Rattle.std.proofs.lemmas.Bool.{cases_Bool, eqb-true, eqb-false, eq-eqb}
+use Rattle.std.proofs.lemmas.List.{append-nil, nil_from_length}
 use Rattle.std.proofs.lemmas.Slice.Eq.{bytes_eq-Decides}
 use Rattle.bpf_code.specs.declared.operation.Test.TheVariants.{Equal, AtLeast}
 use Rattle.bpf_code.specs.declared.operation.Width.TheVariants.{Byte}
@@ -11,18 +11,17 @@ use Rattle.match_key.specs.declared.relation.Relation.TheVariants.{NameNamespace
 use Rattle.match_rule.specs.Holds.{Begins, InPathNamespace, compared_text}
 use Rattle.summary.specs.Shown.{Tells}
 use Rattle.rule_compile.proofs.Bytes.{Stands, At}
+use Rattle.rule_compile.proofs.Conditions.{below}
 use Rattle.rule_compile.proofs.Pieces.{Any}
+use Rattle.rule_compile.proofs.Texts.{whole, Separated, Named, named_rest, rest_named}
 use Rattle.filter_compile.specs.Holds.{text_of_code}
 use Rattle.filter_compile.specs.Pieces.{Piece, holds_next, indexed_test, has_len, from_start, same_bytes, end_or, bytes_then, in_namespace}
 use Rattle.filter_compile.specs.TestCode.{path_within}
 use Rattle.filter_compile.proofs.TwoExits.{Extends, extends_both, extends_either, extends_choice, extends_word, extends_indexed, extends_from_start, Tests, tests_same, tests_then, tests_else, tests_both, tests_indexed, tests_from_start}
 use Rattle.filter_compile.proofs.Units.{unit_loads, extends_same_bytes, tests_same_bytes}
-use Rattle.filter_compile.proofs.Texts.{whole, tests_len_is, tests_len_from}
+use Rattle.filter_compile.proofs.Texts.{tests_len_is, tests_len_from}
 
 -- ---- after the value
-
-abbrev Separated : List ℕ → ℕ → ℕ → Type 0
-Separated text n separator = (n < length text) × (slice_index text n ≡ separator)
 
 extends_end_or : (separator n at : ℕ) → Extends (end_or separator n at)
 extends_end_or separator n at =
@@ -64,21 +63,6 @@ tests_bytes_then image at text value P f tells bytes few extends t =
 
 -- ---- the value, or it and a separator
 
-abbrev Named : List ℕ → List ℕ → ℕ → Type 0
-Named text value separator = (text ≡ value) ⊎ Begins text (value ++ separator ∷ [])
-
-named_rest : (text value : List ℕ) (separator : ℕ) (rest : List ℕ) → text ≡ value ++ rest → Separated text (length value) separator → Begins text (value ++ separator ∷ [])
-named_rest text value separator [] is (less, at) = absurd (omega (arith, ap length is, length-append value []))
-named_rest text value separator (b ∷ rest) is (less, at) =
-    let here : slice_index text (length value) ≡ b = ap (λ (bytes : List ℕ). slice_index bytes (length value)) is ∙ get_or_at value b rest 0 (length value) refl in
-    let same : b ≡ separator = sym here ∙ at in
-    (rest, is ∙ ap (λ (c : ℕ). value ++ c ∷ rest) same ∙ sym (append_assoc value (separator ∷ []) rest))
-
-rest_named : (text value : List ℕ) (separator : ℕ) (rest : List ℕ) → text ≡ (value ++ separator ∷ []) ++ rest → (text ≡ value ++ (separator ∷ rest)) × Separated text (length value) separator
-rest_named text value separator rest is =
-    let e : text ≡ value ++ (separator ∷ rest) = is ∙ append_assoc value (separator ∷ []) rest in
-    (e, (omega (arith, ap length e, length-append value (separator ∷ rest)), ap (λ (bytes : List ℕ). slice_index bytes (length value)) e ∙ get_or_at value separator rest 0 (length value) refl))
-
 -- what the piece looks at
 abbrev Looked : List ℕ → List ℕ → ℕ → Type 0
 Looked text value separator =
@@ -118,12 +102,6 @@ tests_in_namespace image at separator text value tells bytes =
 pub extends_path_within : (value : List ℕ) (at : ℕ) → Extends (path_within value at)
 extends_path_within value at =
     extends_choice (bytes_eq value (47 ∷ [])) (has_len AtLeast 0 at) (in_namespace 47 value at) (extends_word (at + 4) AtLeast 0) (extends_in_namespace 47 value at)
-
-below : (p value : List ℕ) → bytes_eq value (47 ∷ []) ≡ false → ((p ≡ value) ⊎ Begins p (value ++ 47 ∷ [])) ↔ InPathNamespace p value
-below p value is = (
-  λ h. elim h [ inl e ↦ inl e | inr b ↦ inr (inl b) ],
-  λ h. elim h [ inl e ↦ inl e | inr b ↦ elim b [ inl s ↦ inr s | inr root ↦ absurd (false≢true (sym is ∙ (bytes_eq-Decides value (47 ∷ [])).1 root)) ] ],
-)
 
 pub tests_path_within : (image : List ℕ) (at : ℕ) (text value : List ℕ) → Tells image at text → AreBytes value → Tests image Any (InPathNamespace text value) (path_within value at)
 tests_path_within image at text value tells bytes = elim (cases_Bool (bytes_eq value (47 ∷ []))) [

@@ -25,8 +25,9 @@ shares_word n k = (
   λ share. ap not (ne_eqb (bit_and n k) 0 share),
 )
 
-digit_shares : (image : List ℕ) (place : ℕ) (width : Width) (at d k : ℕ) → load width image (place + at) ≡ Some d → Tests image (At place) (Share d k) (indexed_test width at SharesBit k)
-digit_shares image place width at d k is =
+-- one digit
+pub tests_shared_one : (image : List ℕ) (place : ℕ) (width : Width) (at d k : ℕ) → load width image (place + at) ≡ Some d → Tests image (At place) (Share d k) (indexed_test width at SharesBit k)
+tests_shared_one image place width at d k is =
     tests_same image (At place) _ (Share d k) (indexed_test width at SharesBit k) (shares_word d k) (tests_indexed image place width at d SharesBit k is)
 
 -- a digit that decides alone, or leaves it to the lower ones
@@ -35,7 +36,7 @@ tests_shared_rung image place width at d e P f is extends here t =
     tests_same image (At place) (Share d e ⊎ ((bit_and d e ≡ 0) × P)) P (rung SharesBit width at e f) (
       λ one. elim one [ inl share ↦ here share | inr each ↦ each.1 ],
       λ p. elim (cases_eq (bit_and d e) 0) [ inl none ↦ inr (none, p) | inr share ↦ inl share ],
-    ) (tests_else image (At place) (Share d e) ((bit_and d e ≡ 0) × P) (indexed_test width at SharesBit e) f (digit_shares image place width at d e is) extends (λ n. elim (cases_eq (bit_and d e) 0) [
+    ) (tests_else image (At place) (Share d e) ((bit_and d e ≡ 0) × P) (indexed_test width at SharesBit e) f (tests_shared_one image place width at d e is) extends (λ n. elim (cases_eq (bit_and d e) 0) [
       | inl none ↦ tests_same image (At place) P _ f (λ p. (none, p), λ each. each.1) (t none)
       | inr share ↦ absurd (n share)
     ]))
@@ -58,7 +59,7 @@ tests_shared_ladder image place n k zero small loads none =
     tests_same image (At place) (Share (byte_at 0 n) (byte_at 0 k)) (Share n k) (ladder SharesBit k 0) (
       λ share e. share (omega (arith, b, e)),
       λ share e. share (omega (arith, b, e, none)),
-    ) (digit_shares image place Byte 0 (byte_at 0 n) (byte_at 0 k) (loads 0 (omega arith)))
+    ) (tests_shared_one image place Byte 0 (byte_at 0 n) (byte_at 0 k) (loads 0 (omega arith)))
 tests_shared_ladder image place n k (suc j) small loads none =
     let b = byte_and (suc j) n k small in
     tests_shared_rung image place Byte (suc j) (byte_at (suc j) n) (byte_at (suc j) k) (Share n k) (ladder SharesBit k j) (loads (suc j) (omega arith)) (extends_ladder SharesBit k j) (λ share e. share (let h = high_none (suc j) (bit_and n k) e in omega (arith, b, h))) (λ e.
@@ -72,8 +73,4 @@ tests_shared_wide image place n k small first second =
     tests_same image (At place) (Share (n % 2 ^ 32) (k % 2 ^ 32)) (Share n k) (indexed_test Word 4 SharesBit (k % 2 ^ 32)) (
       λ share e. share (omega (arith, low, e)),
       λ share e. share (omega (arith, low, high, e, none)),
-    ) (digit_shares image place Word 4 (n % 2 ^ 32) (k % 2 ^ 32) second))
-
--- one digit alone
-pub tests_shared_one : (image : List ℕ) (place : ℕ) (width : Width) (at d k : ℕ) → load width image (place + at) ≡ Some d → Tests image (At place) (Share d k) (indexed_test width at SharesBit k)
-tests_shared_one image place width at d k is = digit_shares image place width at d k is
+    ) (tests_shared_one image place Word 4 (n % 2 ^ 32) (k % 2 ^ 32) second))

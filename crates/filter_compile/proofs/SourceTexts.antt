@@ -1,23 +1,14 @@
 -- The pieces that compare a text of a field or of an argument, which may be absent, or of another type.
-use Rattle.std.proofs.Common.{◌≡◌, ℕ, zero, suc, ◌+◌, ◌<◌, true, false, List, length, eqb, Option, Some, None, ◌↔◌, inl, inr, refl, sym, ◌∙◌, subst, slice_get}
+use Rattle.std.proofs.Common.{◌≡◌, ℕ, ◌+◌, ◌<◌, true, false, List, eqb, Option, Some, None, ◌↔◌, inl, inr, refl, subst}
 use Rattle.std.specs.Prelude.{IsSomeAnd, IfSome, is_some, option_map}
 use Rattle.std.proofs.lemmas.Bool.{false≢true, cases_Bool, eqb-true, eqb-false}
-use Rattle.std.proofs.lemmas.Option.{same_Some}
-use Rattle.signature.specs.DataType.{DataType, DataTypes, basic, variant, array, dict, struct, one_more}
-use Rattle.signature.specs.Alignment.{alignment_of}
-use Rattle.message_value.specs.Arguments.{Argument, argument_of, arguments_from}
+use Rattle.message_value.specs.Arguments.{Argument}
 use Rattle.message_value.specs.Bytes.{AreBytes}
-use Rattle.message_value.specs.Fits.{is_text_code, BareFits, MembersFit, max_levels}
-use Rattle.message_value.specs.Spelling.{align_up, value_bytes}
-use Rattle.message_value.specs.Value.{Value, Values, number, text as text_value, one_value}
-use Rattle.message_value.specs.declared.order.Order.{Order}
-use Rattle.message_view.specs.Message.{Message}
-use Rattle.message_view.specs.Spelling.{header_bytes, body_place, arguments_of}
-use Rattle.message_view.specs.Valid.{Valid}
 use Rattle.match_rule.specs.Arguments.{text_in}
 use Rattle.summary.specs.declared.edition.Edition.TheVariants.{Two}
 use Rattle.summary.specs.Layout.{argument_place}
 use Rattle.summary.specs.Shown.{Tells, ShowsText, ShowsArgument}
+use Rattle.rule_compile.proofs.Arguments.{shown_text}
 use Rattle.rule_compile.proofs.Pieces.{Any}
 use Rattle.filter.specs.declared.test.TextRelation.{TextRelation}
 use Rattle.filter.specs.declared.test.TextRelation.TheVariants as relations
@@ -52,34 +43,6 @@ tests_field image at (Some text) Q f tells extends t =
 
 -- ---- of an argument
 
-abbrev HasText : Argument → Type 0
-HasText a = (t : List ℕ) × (a.text ≡ Some t)
-
-no_text : (code : ℕ) (P : Type 0) → is_text_code code ≡ false → is_text_code code ≡ true → P
-no_text code P none is = absurd (false≢true (sym none ∙ is))
-
-argument_text : (order : Order) (levels place : ℕ) (t : DataType) (v : Value) → BareFits order levels place t v → is_text_code (argument_of order place t v).code ≡ true → HasText (argument_of order place t v)
-argument_text order levels place (basic code) (text_value bytes) fits is = (bytes, refl)
-argument_text order levels place (basic code) (number bits) fits is = no_text code _ fits.0 is
-argument_text order levels place (basic code) _ fits is = absurd fits
-argument_text order levels place variant v fits is = no_text 118 _ refl is
-argument_text order levels place (array t) v fits is = no_text 97 _ refl is
-argument_text order levels place (dict k t) v fits is = no_text 97 _ refl is
-argument_text order levels place (struct t ts) v fits is = no_text 40 _ refl is
-
-text_among : (order : Order) (levels place : ℕ) (ts : DataTypes) (vs : Values) (n : ℕ) (a : Argument) → MembersFit order levels place ts vs → slice_get (arguments_from order place ts vs) n ≡ Some a → is_text_code a.code ≡ true → HasText a
-text_among order levels place (one_more t ts) (one_value v vs) zero a fits at is =
-    let same = same_Some _ a at in
-    subst HasText same (argument_text order levels (align_up (alignment_of t) place) t v fits.0 (subst (λ (b : Argument). is_text_code b.code ≡ true) (sym same) is))
-text_among order levels place (one_more t ts) (one_value v vs) (suc n) a fits at is =
-    text_among order levels (place + length (value_bytes order place t v)) ts vs n a fits.1 at is
-text_among order levels place _ _ n a fits at is = absurd cc
-
--- a text among the arguments of a valid message
-pub argument_has_text : (bytes : List ℕ) (m : Message) (n : ℕ) (a : Argument) → Valid bytes m → slice_get (arguments_of m) n ≡ Some a → is_text_code a.code ≡ true → (t : List ℕ) × (a.text ≡ Some t)
-argument_has_text bytes m n a valid at is =
-    text_among m.order max_levels (body_place (length (header_bytes m))) m.types m.arguments n a valid.arguments at is
-
 -- the text of an argument of a type
 typed : (code : ℕ) (a : Argument) (Q : List ℕ → Type 0) → ((a.code ≡ code) × IsSomeAnd a.text Q) ↔ IsSomeAnd (text_of_code code (text_in (Some a))) Q
 typed code a Q = go a.text
@@ -90,13 +53,6 @@ typed code a Q = go a.text
       | inl same ↦ rw same (λ each. each.1, λ q. (eqb-true a.code code same, q))
       | inr other ↦ rw other (λ each. absurd (eqb-false a.code code other each.0), λ none. absurd none)
     ]
-
--- some text of which something holds
-shown_text : (a : Argument) (t : List ℕ) (Q : List ℕ → Type 0) → a.text ≡ Some t → Q t ↔ IsSomeAnd a.text Q
-shown_text a t Q is = (
-  λ q. subst (λ (o : Option (List ℕ)). IsSomeAnd o Q) (sym is) q,
-  λ q. subst (λ (o : Option (List ℕ)). IsSomeAnd o Q) is q,
-)
 
 pub tests_argument : (image : List ℕ) (n code : ℕ) (o : Option Argument) (Q : List ℕ → Type 0) (f : Piece) → ShowsArgument Two image (argument_place n) o → 0 < code → ((a : Argument) → o ≡ Some a → a.code ≡ code → (t : List ℕ) × (a.text ≡ Some t)) → Extends f → ((text : List ℕ) → Tells image (argument_place n + 4) text → Tests image Any (Q text) f) → Tests image Any (IsSomeAnd (text_of_code code (text_in o)) Q) (both (has_type n code) f)
 tests_argument image n code None Q f shows above has extends t =

@@ -1,7 +1,7 @@
 -- What the piece of each test does: it tests whether the test holds.
-use Rattle.std.proofs.Common.{◌≡◌, ℕ, ◌+◌, ◌^◌, ◌<◌, ◌≤◌, Bool, true, false, List, ◌∷◌, length, Option, Some, None, ◌↔◌, inl, inr, refl, ap, arith, subst, slice_get}
+use Rattle.std.proofs.Common.{◌≡◌, ℕ, ◌+◌, ◌^◌, ◌<◌, ◌≤◌, Bool, true, false, List, ◌∷◌, length, Option, Some, None, inl, inr, refl, ap, arith, subst, slice_get}
 use Rattle.std.specs.Prelude.{IsSomeAnd, IfSome, is_some, min, unwrap_or, option_map, if◌then◌else◌}
-use Rattle.std.proofs.lemmas.Bool.{false≢true, true≢false, cases_Bool}
+use Rattle.std.proofs.lemmas.Bool.{false≢true, cases_Bool}
 use Rattle.bpf_code.specs.declared.operation.Arithmetic.TheVariants.{Sub}
 use Rattle.bpf_code.specs.declared.operation.Op.TheVariants.{Compute, LoadLength}
 use Rattle.bpf_code.specs.declared.operation.Operand.TheVariants.{Constant}
@@ -11,12 +11,14 @@ use Rattle.message_view.specs.Header.{kind_byte}
 use Rattle.match_key.specs.Kinds.{kind_meant}
 use Rattle.rule_compile.specs.Code.{plain, image_word}
 use Rattle.rule_compile.proofs.Runs.{runs_image_word}
+use Rattle.rule_compile.proofs.TextArguments.{argument_has_text, path_has_text}
 use Rattle.filter_compile.specs.EachTest.{HasBytes}
 use Rattle.filter_compile.proofs.ArgNumbers.{extends_arg_number, tests_arg_number}
 use Rattle.filter_compile.proofs.Runs.{runs_length, runs_sub}
-use Rattle.filter_compile.proofs.HeaderNumbers.{Loads, extends_compared, tests_number}
+use Rattle.filter_compile.proofs.HeaderNumbers.{Loads, extends_word_number, extends_message_len, tests_number}
 use Rattle.filter_compile.proofs.NamesOf.{AsksIn}
 use Rattle.filter_compile.proofs.ArgumentValues.{Laid, arguments_lie}
+use Rattle.filter_compile.proofs.TypeIntegers.{not_true}
 use Rattle.filter_compile.proofs.Truths.{extends_truth, tests_truth}
 use Rattle.filter_compile.proofs.NestedPaths.{tests_path_argument, extends_is_nested, tests_is_nested}
 use Rattle.signature.specs.DataType.{DataType}
@@ -62,10 +64,10 @@ use Rattle.filter_compile.specs.Holds.{Says, field_text, has_field, flag_bit, ty
 use Rattle.filter_compile.specs.Names.{has_name, slot_in}
 use Rattle.filter_compile.specs.Pieces.{Piece, no, both, is_there, word_test}
 use Rattle.filter_compile.specs.PieceOfTest.{number_code, test_code}
-use Rattle.filter_compile.specs.TestCode.{view_field, field_place, words_at, has_text, text_relates, owns, owner_code, text_code_of, says, scope_relates, scope_words, has_scope, scope_code, number_compared, header_number}
+use Rattle.filter_compile.specs.TestCode.{view_field, field_place, words_at, has_text, text_relates, owns, owner_code, text_code_of, says, scope_relates, scope_words, has_scope, scope_code, word_number, reply_serial}
 use Rattle.filter_compile.proofs.TwoExits.{Extends, extends_no, extends_both, extends_choice, extends_either, extends_word, Tests, tests_same, tests_no, tests_then, tests_both, tests_word}
 use Rattle.filter_compile.proofs.Fields.{tests_says, extends_says, tests_kind, tests_there, tests_absent, reply_serial_above, tests_reply_serial, tests_count, type_above, tests_type, tests_owns}
-use Rattle.filter_compile.proofs.SourceTexts.{extends_relates, tests_relates, tests_field, argument_has_text, tests_argument}
+use Rattle.filter_compile.proofs.SourceTexts.{extends_relates, tests_relates, tests_field, tests_argument}
 use Rattle.filter_compile.proofs.Scopes.{extends_in_namespace, tests_in_namespace, extends_path_within, tests_path_within, same_name_text}
 
 -- the owned names have a filter's names exactly where their slots are among the slots
@@ -111,10 +113,6 @@ module _ (image bytes : List ℕ) (m : Message) (slots : List ℕ) (owned : List
       is_text text_types.ObjectPath a e = rw e refl
       is_text text_types.Signature a e = rw e refl
 
-  not_true : (b : Bool) → (b ≡ true → ⊥) ↔ (b ≡ false)
-  not_true true = (λ n. absurd (n refl), λ e. absurd (true≢false e))
-  not_true false = (λ _. refl, λ _ e. false≢true e)
-
   tests_owner : (relation : TextRelation) (name : List ℕ) → has_name names name ≡ true → Tests image Any (OwnerRelates relation (owned name) m) (owner_code relation (slot_in names name))
   tests_owner relations.Unequal name is =
       let slot = slot_in names name in
@@ -151,7 +149,7 @@ module _ (image bytes : List ℕ) (m : Message) (slots : List ℕ) (owned : List
       let f : Piece = scope_relates (ArgPath n) value at in
       let Q : List ℕ → Type 0 = λ text. Says equality (IsWithin (ArgPath n) text value) in
       let o = slice_get (arguments_of m) k in
-      tests_path_argument image k o Q (says equality f) (shows.argument k (let l = number_small n in omega arith)) (λ a is text. argument_has_text bytes m k a valid is text) (extends_says equality f (extends_is_nested value at)) (λ text tells. tests_says image Any equality (IsWithin (ArgPath n) text value) f (tests_is_nested image at text value tells are))
+      tests_path_argument image k o Q (says equality f) (shows.argument k (let l = number_small n in omega arith)) (λ a is text. path_has_text bytes m k a valid is text) (extends_says equality f (extends_is_nested value at)) (λ text tells. tests_says image Any equality (IsWithin (ArgPath n) text value) f (tests_is_nested image at text value tells are))
 
   -- ---- numbers
 
@@ -165,33 +163,33 @@ module _ (image bytes : List ℕ) (m : Message) (slots : List ℕ) (owned : List
   body_below : length (body_bytes m) < 2 ^ 32
   body_below = omega (arith, len_below, length-laid m.order (kind_byte m.kind) m.flags m.serial (header_bytes m) (body_bytes m))
 
-  answered : (o : Option ℕ) → load_word image reply_serial_place ≡ Some (unwrap_or o 0) → ((n : ℕ) → o ≡ Some n → 0 < n) → unwrap_or o 0 < 2 ^ 32 → (relation : NumberRelation) (value : Integer) → Tests image Any (IsSomeAnd (option_map natural o) (λ found. NumberRelates relation found value)) (header_number sources_of.ReplySerial relation value)
+  answered : (o : Option ℕ) → load_word image reply_serial_place ≡ Some (unwrap_or o 0) → ((n : ℕ) → o ≡ Some n → 0 < n) → unwrap_or o 0 < 2 ^ 32 → (relation : NumberRelation) (value : Integer) → Tests image Any (IsSomeAnd (option_map natural o) (λ found. NumberRelates relation found value)) (reply_serial relation value)
   answered None is above below relation value =
-      let compared = number_compared sources_of.ReplySerial relation value in
-      tests_same image Any ((false ≡ true) × ⊥) ⊥ (both (is_there reply_serial_place) compared) (λ each. each.1, λ none. absurd none) (tests_then image Any _ ⊥ (is_there reply_serial_place) compared (tests_reply_serial image Any None is above) (extends_compared sources_of.ReplySerial relation value) (λ e. absurd (false≢true e)))
+      let compared = word_number reply_serial_place relation value in
+      tests_same image Any ((false ≡ true) × ⊥) ⊥ (both (is_there reply_serial_place) compared) (λ each. each.1, λ none. absurd none) (tests_then image Any _ ⊥ (is_there reply_serial_place) compared (tests_reply_serial image Any None is above) (extends_word_number reply_serial_place relation value) (λ e. absurd (false≢true e)))
   answered (Some n) is above below relation value =
-      let compared = number_compared sources_of.ReplySerial relation value in
-      tests_same image Any ((is_some (Some n) ≡ true) × NumberRelates relation (natural n) value) (NumberRelates relation (natural n) value) (both (is_there reply_serial_place) compared) (λ each. each.1, λ q. (refl, q)) (tests_then image Any _ (NumberRelates relation (natural n) value) (is_there reply_serial_place) compared (tests_reply_serial image Any (Some n) is above) (extends_compared sources_of.ReplySerial relation value) (λ _. tests_number image n (λ rest. image_word reply_serial_place ∷ rest) below (word_loads reply_serial_place n is) relation value))
+      let compared = word_number reply_serial_place relation value in
+      tests_same image Any ((is_some (Some n) ≡ true) × NumberRelates relation (natural n) value) (NumberRelates relation (natural n) value) (both (is_there reply_serial_place) compared) (λ each. each.1, λ q. (refl, q)) (tests_then image Any _ (NumberRelates relation (natural n) value) (is_there reply_serial_place) compared (tests_reply_serial image Any (Some n) is above) (extends_word_number reply_serial_place relation value) (λ _. tests_number image n (λ rest. image_word reply_serial_place ∷ rest) below (word_loads reply_serial_place n is) relation value))
 
   length_loads : Loads image (length (message_bytes m)) (λ rest. plain LoadLength 0 ∷ plain (Compute Sub Constant) 976 ∷ rest)
   length_loads rest v run a x any =
       runs_length (plain (Compute Sub Constant) 976 ∷ rest) image a x v (runs_sub rest image 976 (length (message_bytes m)) (length image) x v (omega arith) (omega (arith, len, len_below)) (omega (arith, len)) (run x any))
 
-  pub tests_header : (source : NumberSource) (relation : NumberRelation) (value : Integer) → Tests image Any (IsSomeAnd (integer_at source m) (λ found. NumberRelates relation found value)) (number_code source relation value)
-  tests_header sources_of.Serial relation value =
+  tests_number_at : (source : NumberSource) (relation : NumberRelation) (value : Integer) → Tests image Any (IsSomeAnd (integer_at source m) (λ found. NumberRelates relation found value)) (number_code source relation value)
+  tests_number_at sources_of.Serial relation value =
       tests_number image m.serial (λ rest. image_word serial_place ∷ rest) valid.serial_fits (word_loads serial_place m.serial shows.serials.0) relation value
-  tests_header sources_of.ReplySerial relation value =
+  tests_number_at sources_of.ReplySerial relation value =
       answered (reply_serial_of m) shows.serials.1 (λ n e. reply_serial_above bytes m n valid e) (reply_serial_below bytes m valid) relation value
-  tests_header sources_of.Flags relation value =
+  tests_number_at sources_of.Flags relation value =
       tests_number image m.flags (λ rest. image_word flags_place ∷ rest) (omega (arith, valid.flags)) (word_loads flags_place m.flags shows.head.flags) relation value
-  tests_header sources_of.BodyLength relation value =
+  tests_number_at sources_of.BodyLength relation value =
       tests_number image (length (body_bytes m)) (λ rest. image_word 16 ∷ rest) body_below (word_loads 16 (length (body_bytes m)) shows.head.body_len) relation value
-  tests_header sources_of.Args relation value =
+  tests_number_at sources_of.Args relation value =
       let n : ℕ = min (length (arguments_of m)) 64 in
       tests_number image n (λ rest. image_word count_place ∷ rest) (omega arith) (word_loads count_place n shows.head.count) relation value
-  tests_header sources_of.Length relation value =
+  tests_number_at sources_of.Length relation value =
       tests_number image (length (message_bytes m)) (λ rest. plain LoadLength 0 ∷ plain (Compute Sub Constant) 976 ∷ rest) (omega (arith, len_below)) length_loads relation value
-  tests_header (sources_of.Arg n) relation value =
+  tests_number_at (sources_of.Arg n) relation value =
       let k : ℕ = number_of_arg n in
       tests_arg_number image (message_bytes m) m.order max_levels k (slice_get (arguments_of m) k) (value_at k m.types m.arguments) relation value shows.head.order (shows.argument k (let l = number_small n in omega arith)) (arguments_lie bytes m k valid) (λ laid. lies (slice_get (arguments_of m) k) (value_at k m.types m.arguments) laid)
 
@@ -219,7 +217,7 @@ module _ (image bytes : List ℕ) (m : Message) (slots : List ℕ) (owned : List
       tests_truth image (message_bytes m) m.order max_levels k (slice_get (arguments_of m) k) (value_at k m.types m.arguments) equality truth (shows.argument k (let l = number_small n in omega arith)) (arguments_lie bytes m k valid) (λ laid. lies (slice_get (arguments_of m) k) (value_at k m.types m.arguments) laid)
   test_runs (tests.Text source relation value) fits = tests_text source relation value fits.0 (asked_of (asks_owner source relation value) value fits.1)
   test_runs (tests.Within scope equality value) fits = tests_scope scope equality value fits.0
-  test_runs (tests.Number source relation value) fits = tests_header source relation value
+  test_runs (tests.Number source relation value) fits = tests_number_at source relation value
 
 -- ---- pieces stand in front of their rest
 
@@ -246,6 +244,16 @@ extends_scope_relates PathNamespace value at = extends_path_within value at
 extends_scope_relates (ArgNamespace n) value at = extends_in_namespace 46 value at
 extends_scope_relates (ArgPath n) value at = extends_is_nested value at
 
+extends_number : (source : NumberSource) (relation : NumberRelation) (value : Integer) → Extends (number_code source relation value)
+extends_number sources_of.Serial relation value = extends_word_number serial_place relation value
+extends_number sources_of.ReplySerial relation value =
+    extends_both (is_there reply_serial_place) (word_number reply_serial_place relation value) (extends_word reply_serial_place Above 0) (extends_word_number reply_serial_place relation value)
+extends_number sources_of.Flags relation value = extends_word_number flags_place relation value
+extends_number sources_of.BodyLength relation value = extends_word_number 16 relation value
+extends_number sources_of.Args relation value = extends_word_number count_place relation value
+extends_number sources_of.Length relation value = extends_message_len relation value
+extends_number (sources_of.Arg n) relation value = extends_arg_number (number_of_arg n) relation value
+
 pub extends_piece : (names : List (List ℕ)) (t : Test) → Extends (test_code names t)
 extends_piece names (tests.Kind equality kind) = extends_says equality _ (extends_word _ Equal _)
 extends_piece names tests.Broadcast = extends_word 56 Equal 0
@@ -258,7 +266,4 @@ extends_piece names (tests.Text source relation value) = extends_text names sour
 extends_piece names (tests.Within scope equality value) =
     let f : Piece = scope_relates scope value (scope_words scope) in
     extends_both (has_scope scope) (says equality f) (extends_has_scope scope) (extends_says equality f (extends_scope_relates scope value (scope_words scope)))
-extends_piece names (tests.Number sources_of.ReplySerial relation value) =
-    extends_both (is_there reply_serial_place) (number_compared sources_of.ReplySerial relation value) (extends_word reply_serial_place Above 0) (extends_compared sources_of.ReplySerial relation value)
-extends_piece names (tests.Number (sources_of.Arg n) relation value) = extends_arg_number (number_of_arg n) relation value
-extends_piece names (tests.Number source relation value) = extends_compared source relation value
+extends_piece names (tests.Number source relation value) = extends_number source relation value

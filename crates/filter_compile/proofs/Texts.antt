@@ -18,6 +18,7 @@ use Rattle.rule_compile.specs.Code.{plain, image_word, index_from_a}
 use Rattle.rule_compile.proofs.Bytes.{Stands}
 use Rattle.rule_compile.proofs.Pieces.{Any}
 use Rattle.rule_compile.proofs.Runs.{runs_image_word, runs_index_from_a}
+use Rattle.rule_compile.proofs.Texts.{whole}
 use Rattle.filter_compile.specs.Holds.{EndsWith}
 use Rattle.filter_compile.specs.Pieces.{Piece, both, has_len, from_start, index_back, from_back, same_bytes, len_then, is_text, begins, ends}
 use Rattle.filter_compile.proofs.TwoExits.{Extends, extends_both, extends_choice, extends_word, extends_more, extends_from_start, Tests, tests_same, tests_then, tests_word, tests_placed, tests_from_start}
@@ -52,12 +53,6 @@ tests_len_then image test value at text Q P f tells extends empty filled t = eli
 ]
 
 -- ---- the text is a value
-
--- all of the text
-pub whole : (text value rest : List ℕ) → text ≡ value ++ rest → length text ≡ length value → text ≡ value
-whole text value rest is e =
-    let none : rest ≡ [] = nil_from_length rest (omega (arith, ap length is, length-append value rest)) in
-    is ∙ ap (λ (bytes : List ℕ). value ++ bytes) none ∙ append-nil value
 
 pub extends_from_bytes : (at : ℕ) (value : List ℕ) → Extends (from_start at (same_bytes 0 value))
 extends_from_bytes at value = extends_from_start at (same_bytes 0 value) (extends_same_bytes 0 value)

@@ -2,9 +2,9 @@
 -- a run over the image ends as it does from the one exit on where the piece's fact holds, and as it does from the other
 -- on where it doesn't. In between no load fails, since a failed one would end the run with 0 at either exit. So a
 -- test's piece is proved by `Tests image Any (TestHolds t m owned) (test_code names t)`, for any image that shows m.
-use Rattle.std.proofs.Common.{◌≡◌, ℕ, ◌+◌, ◌-◌, length, Bool, true, false, List, [], ◌∷◌, ◌++◌, Some, ◌⊎◌, ◌↔◌, inl, inr, refl, sym, ap, ◌∙◌, subst, arith}
+use Rattle.std.proofs.Common.{◌≡◌, ℕ, zero, suc, ◌+◌, ◌<◌, length, Bool, true, false, List, [], ◌∷◌, ◌++◌, Some, ◌⊎◌, ◌↔◌, inl, inr, refl, sym, ap, ◌∙◌, subst, arith}
 use Rattle.std.specs.Prelude.{if◌then◌else◌}
-use Rattle.std.proofs.lemmas.Bool.{true≢false}
+use Rattle.std.proofs.lemmas.Bool.{true≢false, false_from_ne_true}
 use Rattle.std.proofs.lemmas.List.{append_assoc, length-append}
 use Rattle.bpf_code.specs.declared.instruction.Ins.{Ins}
 use Rattle.bpf_code.specs.declared.operation.Width.{Width}
@@ -16,7 +16,16 @@ use Rattle.rule_compile.proofs.Pieces.{RunsTo, Leads, Any}
 use Rattle.rule_compile.proofs.Runs.{runs_image_word, runs_indexed, runs_index_from_a, runs_hit, runs_miss}
 use Rattle.rule_compile.proofs.Bytes.{At}
 use Rattle.filter_compile.specs.declared.exits.Exits.{Exits}
-use Rattle.filter_compile.specs.Pieces.{Piece, turned, holds_next, fails_next, no, both, either, fork, word_test, indexed_test, index_start, from_start}
+use Rattle.filter_compile.specs.Pieces.{Piece, over, turned, holds_next, fails_next, no, both, either, fork, word_test, indexed_test, index_start, from_start}
+
+-- a code in front of another
+abbrev pub Before : List Ins → List Ins → Type 0
+Before rest code = (middle : List Ins) × (code ≡ middle ++ rest)
+
+-- one in front of another that stands in front of a third
+pub joined : (rest more code : List Ins) → Before more code → Before rest more → Before rest code
+joined rest more code first next =
+    (first.0 ++ next.0, first.1 ∙ ap (λ (code : List Ins). first.0 ++ code) next.1 ∙ sym (append_assoc first.0 next.0 rest))
 
 -- with n instructions to the end the program ends with a verdict, whatever A is, where X is as it has to be
 pub record LeadsAt (code : List Ins) (n : ℕ) (image : List ℕ) (X : ℕ → Type 0) (v : ℕ) : Type 0 where
@@ -28,7 +37,7 @@ pub record LeadsAt (code : List Ins) (n : ℕ) (image : List ℕ) (X : ℕ → T
 
 -- the piece is put in front of the rest
 abbrev pub Extends : Piece → Type 0
-Extends f = (exits : Exits) (rest : List Ins) → (middle : List Ins) × (f exits rest ≡ middle ++ rest)
+Extends f = (exits : Exits) (rest : List Ins) → Before rest (f exits rest)
 
 pub record Tests (image : List ℕ) (X : ℕ → Type 0) (P : Type 0) (f : Piece) : Type 0 where
   pub decided : P ⊎ (P → ⊥)
@@ -42,14 +51,10 @@ pub leads_here : (code : List Ins) (image : List ℕ) (X : ℕ → Type 0) (v : 
 leads_here code image X v leads = record { front = []; exit = code; is = refl; len = refl; leads = leads }
 
 -- one of the rest, with more in front
-pub leads_on : (code middle rest : List Ins) (n : ℕ) (image : List ℕ) (X : ℕ → Type 0) (v : ℕ) → code ≡ middle ++ rest → LeadsAt rest n image X v → LeadsAt code n image X v
-leads_on code middle rest n image X v is l = record {
-  front = middle ++ l.front;
-  exit = l.exit;
-  is = is ∙ ap (λ (more : List Ins). middle ++ more) l.is ∙ sym (append_assoc middle l.front l.exit);
-  len = l.len;
-  leads = l.leads;
-}
+pub leads_on : (code rest : List Ins) (n : ℕ) (image : List ℕ) (X : ℕ → Type 0) (v : ℕ) → Before rest code → LeadsAt rest n image X v → LeadsAt code n image X v
+leads_on code rest n image X v before l =
+    let all = joined l.exit rest code before (l.front, l.is) in
+    record { front = all.0; exit = l.exit; is = all.1; len = l.len; leads = l.leads }
 
 -- what leads on for any X does so for one
 pub leads_any : (code : List Ins) (n : ℕ) (image : List ℕ) (X : ℕ → Type 0) (v : ℕ) → LeadsAt code n image Any v → LeadsAt code n image X v
@@ -60,20 +65,13 @@ leads_any code n image X v l = record { front = l.front; exit = l.exit; is = l.i
 pub extends_no : (f : Piece) → Extends f → Extends (no f)
 extends_no f extends exits rest = extends (turned exits) rest
 
-joined : (a b rest code more : List Ins) → code ≡ a ++ more → more ≡ b ++ rest → code ≡ (a ++ b) ++ rest
-joined a b rest code more first next = first ∙ ap (λ (code : List Ins). a ++ code) next ∙ sym (append_assoc a b rest)
-
 pub extends_both : (f g : Piece) → Extends f → Extends g → Extends (both f g)
 extends_both f g first next exits rest =
-    let b = next exits rest in
-    let a = first (holds_next exits (g exits rest)) (g exits rest) in
-    (a.0 ++ b.0, joined a.0 b.0 rest _ (g exits rest) a.1 b.1)
+    joined rest (g exits rest) (both f g exits rest) (first (holds_next exits (g exits rest)) (g exits rest)) (next exits rest)
 
 pub extends_either : (f g : Piece) → Extends f → Extends g → Extends (either f g)
 extends_either f g first next exits rest =
-    let b = next exits rest in
-    let a = first (fails_next exits (g exits rest)) (g exits rest) in
-    (a.0 ++ b.0, joined a.0 b.0 rest _ (g exits rest) a.1 b.1)
+    joined rest (g exits rest) (either f g exits rest) (first (fails_next exits (g exits rest)) (g exits rest)) (next exits rest)
 
 pub extends_choice : (b : Bool) (f g : Piece) → Extends f → Extends g → Extends (if b then f else g)
 extends_choice true f g first other = first
@@ -126,10 +124,9 @@ tests_then image X P Q f g first extends next = record {
       first.holds (holds_next exits code) code v (leads_here code image X v ((next each.0).holds exits rest v leads each.1)) each.0;
   fails = λ exits rest v leads n.
       let code : List Ins = g exits rest in
-      let e = extends exits rest in
       elim first.decided [
         | inl p ↦ first.holds (holds_next exits code) code v (leads_here code image X v ((next p).fails exits rest v leads (λ q. n (p, q)))) p
-        | inr none ↦ first.fails (holds_next exits code) code v (leads_on code e.0 rest exits.fails image X v e.1 leads) none
+        | inr none ↦ first.fails (holds_next exits code) code v (leads_on code rest exits.fails image X v (extends exits rest) leads) none
       ];
 }
 
@@ -142,9 +139,8 @@ tests_else image X P Q f g first extends next = record {
   ];
   holds = λ exits rest v leads one.
       let code : List Ins = g exits rest in
-      let e = extends exits rest in
       elim first.decided [
-        | inl p ↦ first.holds (fails_next exits code) code v (leads_on code e.0 rest exits.holds image X v e.1 leads) p
+        | inl p ↦ first.holds (fails_next exits code) code v (leads_on code rest exits.holds image X v (extends exits rest) leads) p
         | inr none ↦ first.fails (fails_next exits code) code v (leads_here code image X v ((next none).holds exits rest v leads (elim one [ inl p ↦ absurd (none p) | inr q ↦ q ]))) none
       ];
   fails = λ exits rest v leads n.
@@ -159,23 +155,31 @@ tests_both image X P Q f g first extends next = tests_then image X P Q f g first
 
 -- ---- comparisons
 
+-- where a run ends there is an instruction
+some_exit : (exit : List Ins) (image : List ℕ) (a x v : ℕ) → RunsTo exit image a x v → 0 < length exit
+some_exit [] image a x v (zero, ends) = absurd ends
+some_exit [] image a x v (suc n, ends) = absurd ends
+some_exit (ins ∷ more) image a x v run = omega arith
+
+pub over_front : (code : List Ins) (n : ℕ) (image : List ℕ) (X : ℕ → Type 0) (v a x : ℕ) (l : LeadsAt code n image X v) → X x → length l.front ≡ over code n
+unfolding over
+over_front code n image X v a x l fits =
+    let some = some_exit l.exit image a x v (l.leads a x fits) in
+    omega (arith, ap length l.is, length-append l.front l.exit, l.len, some)
+
 hit : (rest : List Ins) (image : List ℕ) (X : ℕ → Type 0) (test : Test) (k : ℕ) (exits : Exits) (w x v : ℕ) → passes test w k ≡ true → LeadsAt rest exits.holds image X v → X x → RunsTo (fork test k exits rest) image w x v
 hit rest image X test k exits w x v holds l fits =
-    let e : length l.front ≡ length rest - exits.holds = omega (arith, ap length l.is, length-append l.front l.exit, l.len) in
-    let hit = length rest - exits.holds in
-    let miss = length rest - exits.fails in
+    let e = over_front rest exits.holds image X v w x l fits in
+    let hit = over rest exits.holds in
+    let miss = over rest exits.fails in
     subst (λ (code : List Ins). RunsTo (branch test k hit miss ∷ code) image w x v) (sym l.is) (runs_hit l.front l.exit image test k hit miss w x v holds e (l.leads w x fits))
 
 miss : (rest : List Ins) (image : List ℕ) (X : ℕ → Type 0) (test : Test) (k : ℕ) (exits : Exits) (w x v : ℕ) → passes test w k ≡ false → LeadsAt rest exits.fails image X v → X x → RunsTo (fork test k exits rest) image w x v
 miss rest image X test k exits w x v fails l fits =
-    let e : length l.front ≡ length rest - exits.fails = omega (arith, ap length l.is, length-append l.front l.exit, l.len) in
-    let hit = length rest - exits.holds in
-    let miss = length rest - exits.fails in
+    let e = over_front rest exits.fails image X v w x l fits in
+    let hit = over rest exits.holds in
+    let miss = over rest exits.fails in
     subst (λ (code : List Ins). RunsTo (branch test k hit miss ∷ code) image w x v) (sym l.is) (runs_miss l.front l.exit image test k hit miss w x v fails e (l.leads w x fits))
-
-not_true : (b : Bool) → (b ≡ true → ⊥) → b ≡ false
-not_true true n = absurd (n refl)
-not_true false n = refl
 
 either_way : (b : Bool) → (b ≡ true) ⊎ (b ≡ true → ⊥)
 either_way true = inl refl
@@ -186,7 +190,7 @@ pub tests_loaded : (image : List ℕ) (X Y : ℕ → Type 0) (w : ℕ) (test : T
 tests_loaded image X Y w test k load runs keeps = record {
   decided = either_way (passes test w k);
   holds = λ exits rest v leads p. runs (fork test k exits rest) v (λ x y. hit rest image X test k exits w x v p leads (keeps x y));
-  fails = λ exits rest v leads n. runs (fork test k exits rest) v (λ x y. miss rest image X test k exits w x v (not_true (passes test w k) n) leads (keeps x y));
+  fails = λ exits rest v leads n. runs (fork test k exits rest) v (λ x y. miss rest image X test k exits w x v (false_from_ne_true (passes test w k) n) leads (keeps x y));
 }
 
 pub tests_word : (image : List ℕ) (X : ℕ → Type 0) (at w : ℕ) (test : Test) (k : ℕ) → load_word image at ≡ Some w → Tests image X (passes test w k ≡ true) (word_test at test k)

@@ -1,11 +1,11 @@
 -- The ways of the types: an argument's integer is compared from the entry of its type on.
-use Rattle.std.proofs.Common.{◌≡◌, ℕ, ◌+◌, ◌-◌, ◌*◌, ◌<◌, ◌≤◌, Bool, true, false, List, ◌++◌, length, Some, ◌↔◌, inl, inr, refl, sym, ap, ◌∙◌, arith, subst}
+use Rattle.std.proofs.Common.{◌≡◌, ℕ, ◌+◌, ◌-◌, ◌*◌, ◌<◌, ◌≤◌, Bool, true, false, List, length, Some, ◌↔◌, inl, inr, refl, sym, ap, ◌∙◌, arith, subst}
 use Rattle.std.specs.Prelude.{nat_lt, if◌then◌else◌}
 use Rattle.std.proofs.lemmas.Bool.{false≢true, cases_Bool, ltb-true, ltb-false, lt-ltb, leb-true, le-leb}
 use Rattle.bpf_code.specs.Loads.{load}
 use Rattle.bpf_code.specs.declared.instruction.Ins.{Ins}
 use Rattle.bpf_code.specs.declared.operation.Test.{Test}
-use Rattle.bpf_code.specs.declared.operation.Test.TheVariants.{Equal, Above, AtLeast, SharesBit}
+use Rattle.bpf_code.specs.declared.operation.Test.TheVariants.{Equal, AtLeast, SharesBit}
 use Rattle.bpf_code.specs.declared.operation.Width.TheVariants as widths
 use Rattle.rule_compile.proofs.Bytes.{At}
 use Rattle.filter.specs.declared.integer.Integer.{Integer}
@@ -19,7 +19,7 @@ use Rattle.filter_compile.specs.TestCode.{exits_for}
 use Rattle.filter_compile.specs.declared.exits.Exits.{Exits}
 use Rattle.filter_compile.proofs.Entries.{Decides, decides_on, decides_same, decides_true, decides_false, decides_test}
 use Rattle.filter_compile.proofs.Ladders.{Ordered}
-use Rattle.filter_compile.proofs.TwoExits.{tests_same, tests_indexed}
+use Rattle.filter_compile.proofs.TwoExits.{Before, tests_same, tests_indexed}
 use Rattle.filter_compile.proofs.TypeIntegers.{Compared, IsOrder, naturals, negatives, Outside, natural_outside, natural_below, negative_outside, negative_below}
 
 -- so or not so
@@ -38,28 +38,22 @@ module _ (image : List ℕ) (place : ℕ) (base : List Ins) (exits : Exits) wher
 
   -- a code in front of the base
   abbrev pub Upon : List Ins → Type 0
-  Upon code = (middle : List Ins) × (code ≡ middle ++ base)
+  Upon code = Before base code
 
   pub from_true : (code : List Ins) (C : Type 0) → Upon code → C → From code exits.holds C
-  from_true code C upon c = decides_on image (At place) base exits base upon.0 code exits.holds C upon.1 (decides_true image (At place) base exits C c)
+  from_true code C upon c = decides_on image (At place) base exits base code exits.holds C upon (decides_true image (At place) base exits C c)
 
   pub from_false : (code : List Ins) (C : Type 0) → Upon code → (C → ⊥) → From code exits.fails C
-  from_false code C upon none = decides_on image (At place) base exits base upon.0 code exits.fails C upon.1 (decides_false image (At place) base exits C none)
+  from_false code C upon none = decides_on image (At place) base exits base code exits.fails C upon (decides_false image (At place) base exits C none)
 
   from_outside : (test : Test) (value : Integer) (code : List Ins) (C : Type 0) → Upon code → Outside test value C → From code (outside test value exits) C
   from_outside Equal value code C upon none = from_false code C upon none
-  from_outside Above (Natural v) code C upon none = from_false code C upon none
-  from_outside Above (Negative m) code C upon c = from_true code C upon c
-  from_outside AtLeast (Natural v) code C upon none = from_false code C upon none
-  from_outside AtLeast (Negative m) code C upon c = from_true code C upon c
-  from_outside SharesBit (Natural v) code C upon none = from_false code C upon none
-  from_outside SharesBit (Negative m) code C upon c = from_true code C upon c
+  from_outside _ (Natural v) code C upon none = from_false code C upon none
+  from_outside _ (Negative m) code C upon c = from_true code C upon c
 
   way_of : (test : Test) (kind : ℕ) (value : Integer) (entry : ℕ) → IsOrder test → (if is_inside kind value then entry else outside test value exits) ≡ way test kind value exits entry
-  way_of Equal kind value entry order = refl
-  way_of Above kind value entry order = refl
-  way_of AtLeast kind value entry order = refl
   way_of SharesBit kind value entry order = absurd order
+  way_of _ kind value entry order = refl
 
   -- the way of a type: by its entry where it has the integer, else outside
   pub from_way : (test : Test) (kind : ℕ) (value : Integer) (code : List Ins) (entry : ℕ) (C : Type 0) → IsOrder test → Upon code → (is_inside kind value ≡ true → From code entry C) → (is_inside kind value ≡ false → Outside test value C) → From code (way test kind value exits entry) C
@@ -136,16 +130,14 @@ module _ (image : List ℕ) (place : ℕ) (base : List Ins) (exits : Exits) wher
     where
       below_holds : (test : Test) (n m : ℕ) → IsOrder test → (test ≡ Equal → ⊥) → Compared test (n, Natural n) (Negative m)
       below_holds Equal n m order unequal = absurd (unequal refl)
-      below_holds Above n m order unequal = refl
-      below_holds AtLeast n m order unequal = refl
       below_holds SharesBit n m order unequal = absurd order
+      below_holds _ n m order unequal = refl
 
   -- after its sign, where that is looked at
   pub from_sign : (test : Test) (h n : ℕ) (value : Integer) (code : List Ins) (entry k at top : ℕ) → IsOrder test → Upon code → n < 2 * h → load widths.Byte image (place + at) ≡ Some top → ((128 ≤ top) ↔ (h ≤ n)) → From code entry (Ordered test n k) → ((v : ℕ) → value ≡ Natural v → (v < h) × (k ≡ v)) → ((m : ℕ) → value ≡ Negative m → (m < h) × (k ≡ 2 * h - 1 - m)) → From (sign_step test value at exits entry code).code (sign_step test value at exits entry code).entry (Compared test (n, signed_integer h n) value)
   from_sign Equal h n value code entry k at top order upon small loads sign d natural negative = same_signed h n value code entry k small d natural negative
-  from_sign Above h n value code entry k at top order upon small loads sign d natural negative = beside Above h n value code entry k at top order (λ e. cc) upon small loads sign d natural negative
-  from_sign AtLeast h n value code entry k at top order upon small loads sign d natural negative = beside AtLeast h n value code entry k at top order (λ e. cc) upon small loads sign d natural negative
   from_sign SharesBit h n value code entry k at top order upon small loads sign d natural negative = absurd order
+  from_sign test h n value code entry k at top order upon small loads sign d natural negative = beside test h n value code entry k at top order (λ e. cc) upon small loads sign d natural negative
 
   outside_none : (test : Test) (v : ℕ) (C : Type 0) → (C → ⊥) → Outside test (Natural v) C
   outside_none Equal v C none = none

@@ -23,7 +23,7 @@ not_false : (b : Bool) → (b ≡ false → ⊥) ↔ (b ≡ true)
 not_false true = (λ _. refl, λ _ e. true≢false e)
 not_false false = (λ n. absurd (n refl), λ e. absurd (false≢true e))
 
-not_true : (b : Bool) → (b ≡ true → ⊥) ↔ (b ≡ false)
+pub not_true : (b : Bool) → (b ≡ true → ⊥) ↔ (b ≡ false)
 not_true true = (λ n. absurd (n refl), λ e. absurd (true≢false e))
 not_true false = (λ _. refl, λ _ e. false≢true e)
 

@@ -1,86 +1,26 @@
 -- The bytes of a text that lies in an image, and the pieces that compare them.
-use Rattle.std.proofs.Common.{◌≡◌, ℕ, zero, suc, ◌+◌, ◌-◌, ◌*◌, ◌/◌, ◌<◌, ◌≤◌, inl, inr, List, [], ◌∷◌, ◌++◌, length, drop, Some, refl, sym, ap, ◌∙◌, arith, subst, slice_index}
+use Rattle.std.proofs.Common.{◌≡◌, ℕ, zero, suc, ◌+◌, ◌-◌, ◌*◌, ◌/◌, ◌<◌, ◌≤◌, inl, inr, List, length, Some, refl, sym, ap, ◌∙◌, arith, subst, slice_index}
 use Rattle.std.specs.Prelude.{nat_lt}
-use Rattle.std.proofs.lemmas.Bool.{eqb-true, eq-eqb, le-leb, ltb-false, cases_Bool, cases_lt}
+use Rattle.std.proofs.lemmas.Bool.{eqb-true, eq-eqb, ltb-false, cases_Bool, cases_lt}
 use Rattle.std.proofs.Math.Nat.{mul-suc}
-use Rattle.std.proofs.lemmas.List.{length-append, get_or-append-add, get_or_append_left, get_or-drop, drop_more}
 use Rattle.bpf_code.specs.declared.operation.Test.TheVariants.{Equal}
 use Rattle.bpf_code.specs.declared.operation.Width.{Width}
 use Rattle.bpf_code.specs.declared.operation.Width.TheVariants.{Word, Half, Byte}
 use Rattle.bpf_code.specs.Loads.{load}
 use Rattle.message_value.specs.Bytes.{AreBytes}
 use Rattle.summary.specs.Shown.{Lies}
-use Rattle.rule_compile.specs.Code.{half_number, four}
-use Rattle.rule_compile.proofs.Bytes.{Stands, At}
+use Rattle.rule_compile.proofs.Bytes.{Stands, At, loads_byte, loads_half, loads_word, Agree, stands_agree, agree_stands, two_same, four_same}
 use Rattle.bpf_code.specs.declared.instruction.Ins.{Ins}
 use Rattle.filter_compile.specs.declared.exits.Exits.{Exits}
 use Rattle.filter_compile.specs.Pieces.{Piece, both, unit_number, unit_len, same_unit, same_units, same_by, same_bytes, unit_of}
 use Rattle.filter_compile.proofs.TwoExits.{Extends, extends_both, extends_indexed, Tests, tests_same, tests_both, tests_indexed}
 
--- ---- where a text lies
-
-lies_inside : (image : List ℕ) (place : ℕ) (text : List ℕ) → Lies image place text → place + length text ≤ length image
-lies_inside image place text (front, tail, is, at) =
-    omega (arith, ap length is, length-append front (text ++ tail), length-append text tail, at)
-
-lies_at : (image : List ℕ) (place : ℕ) (text : List ℕ) (i at : ℕ) → Lies image place text → i < length text → place + i ≡ at → slice_index image at ≡ slice_index text i
-lies_at image place text i at (front, tail, is, e) inside there =
-    ap (slice_index image) (sym there)
-    ∙ ap (λ (bytes : List ℕ). slice_index bytes (place + i)) is
-    ∙ ap (λ (p : ℕ). slice_index (front ++ (text ++ tail)) (p + i)) (sym e)
-    ∙ get_or-append-add front (text ++ tail) i 0
-    ∙ get_or_append_left text tail 0 i inside
-
 pub unit_loads : (width : Width) (image : List ℕ) (place : ℕ) (text : List ℕ) (i : ℕ) → Lies image place text → i + unit_len width ≤ length text → load width image (place + i) ≡ Some (unit_number width text i)
-unit_loads Byte image place text i lies inside =
-    let l = lies_inside image place text lies in
-    let h : place + i + 1 ≤ length image = omega arith in
-    rw (le-leb (place + i + 1) (length image) h, lies_at image place text i (place + i) lies (omega arith) refl) refl
-unit_loads Half image place text i lies inside =
-    let l = lies_inside image place text lies in
-    let h : place + i + 2 ≤ length image = omega arith in
-    let a = lies_at image place text i (place + i) lies (omega arith) refl in
-    let b = lies_at image place text (i + 1) (place + i + 1) lies (omega arith) (omega arith) in
-    rw (le-leb (place + i + 2) (length image) h, a, b) refl
-unit_loads Word image place text i lies inside =
-    let l = lies_inside image place text lies in
-    let h : place + i + 4 ≤ length image = omega arith in
-    let a = lies_at image place text i (place + i) lies (omega arith) refl in
-    let b = lies_at image place text (i + 1) (place + i + 1) lies (omega arith) (omega arith) in
-    let c = lies_at image place text (i + 2) (place + i + 2) lies (omega arith) (omega arith) in
-    let d = lies_at image place text (i + 3) (place + i + 3) lies (omega arith) (omega arith) in
-    rw (le-leb (place + i + 4) (length image) h, a, b, c, d) refl
-
--- ---- a value stands at a place of a text
-
--- the bytes of a text from `at` on are those of a value, in a range of the value's places
-abbrev pub Agree : List ℕ → ℕ → List ℕ → ℕ → ℕ → Type 0
-Agree text at value from to = (k : ℕ) → from ≤ k → k < to → slice_index text (at + k) ≡ slice_index value k
-
-stands_agree : (text : List ℕ) (at : ℕ) (value : List ℕ) → Stands text at value → Agree text at value 0 (length value)
-stands_agree text at value (rest, is) k low high =
-    sym (get_or-drop at text k 0) ∙ ap (λ (bytes : List ℕ). slice_index bytes k) is ∙ get_or_append_left value rest 0 k high
-
-agree_stands : (text : List ℕ) (at : ℕ) (value : List ℕ) → at + length value ≤ length text → Agree text at value 0 (length value) → Stands text at value
-agree_stands text at [] inside agree = (drop at text, refl)
-agree_stands text at (a ∷ more) inside agree =
-    let e : at + 0 ≡ at = omega arith in
-    let next : Agree text (at + 1) more 0 (length more) = (λ k low high. let f : at + 1 + k ≡ at + suc k = omega arith in ap (slice_index text) f ∙ agree (suc k) (omega arith) (omega (arith, high))) in
-    let here : slice_index text at ≡ a = ap (slice_index text) (sym e) ∙ agree 0 (omega arith) (omega arith) in
-    let there = agree_stands text (at + 1) more (omega (arith, inside)) next in
-    (there.0, drop_more text at 0 (omega (arith, inside)) ∙ ap (λ (b : ℕ). b ∷ drop (at + 1) text) here ∙ ap (λ (bs : List ℕ). a ∷ bs) there.1)
+unit_loads Byte image place text i lies inside = loads_byte image place text i lies inside
+unit_loads Half image place text i lies inside = loads_half image place text i lies inside
+unit_loads Word image place text i lies inside = loads_word image place text i lies inside
 
 -- ---- units as numbers
-
-two_same : (a b c d : ℕ) → b < 256 → d < 256 → half_number a b ≡ half_number c d → (a ≡ c) × (b ≡ d)
-two_same a b c d small_b small_d e = (omega arith, omega arith)
-
-four_same : (a b c d e f g h : ℕ) → b < 256 → c < 256 → d < 256 → f < 256 → g < 256 → h < 256 → four a b c d ≡ four e f g h → (a ≡ e) × (b ≡ f) × (c ≡ g) × (d ≡ h)
-four_same a b c d e f g h sb sc sd sf sg sh is =
-    let x : ((a * 256 + b) * 256 + c ≡ (e * 256 + f) * 256 + g) × (d ≡ h) = two_same ((a * 256 + b) * 256 + c) d ((e * 256 + f) * 256 + g) h sd sh is in
-    let y : (a * 256 + b ≡ e * 256 + f) × (c ≡ g) = two_same (a * 256 + b) c (e * 256 + f) g sc sg x.0 in
-    let z = two_same a b e f sb sf y.0 in
-    (z.0, z.1, y.1, x.1)
 
 -- the same byte, i + d bytes on
 at_byte : (text : List ℕ) (at : ℕ) (value : List ℕ) (i d k p : ℕ) → k ≡ i + d → p ≡ at + i + d → slice_index text p ≡ slice_index value (i + d) → slice_index text (at + k) ≡ slice_index value k

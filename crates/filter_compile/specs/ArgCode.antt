@@ -15,12 +15,12 @@ use Rattle.filter.specs.declared.integer.Integer.{Integer}
 use Rattle.filter.specs.declared.integer.Integer.TheVariants.{Natural, Negative}
 use Rattle.filter.specs.declared.test.NumberRelation.{NumberRelation}
 use Rattle.filter_compile.specs.declared.exits.Exits.{Exits}
-use Rattle.filter_compile.specs.declared.arg_number.IntegerType.{IntegerType}
-use Rattle.filter_compile.specs.declared.arg_number.IntegerType.TheVariants.{Byte, Boolean, Int16, Uint16, Int32, Uint32, Int64, Uint64}
-use Rattle.filter_compile.specs.declared.arg_number.Sizes.{Sizes}
+use Rattle.filter_compile.specs.declared.integer_type.IntegerType.{IntegerType}
+use Rattle.filter_compile.specs.declared.integer_type.IntegerType.TheVariants.{Byte, Boolean, Int16, Uint16, Int32, Uint32, Int64, Uint64}
+use Rattle.filter_compile.specs.declared.digits.Sizes.{Sizes}
 use Rattle.filter_compile.specs.Entered.{Entered, whole}
 use Rattle.filter_compile.specs.Holds.{is_signed_code, bits_of_code}
-use Rattle.filter_compile.specs.Pieces.{Piece, holds_next, fails_next, index_start, word_test, indexed_test}
+use Rattle.filter_compile.specs.Pieces.{Piece, over, holds_next, fails_next, index_start, word_test, indexed_test}
 use Rattle.filter_compile.specs.TestCode.{exits_for, comparison_of, equality_of}
 
 -- ---- digits, from the highest on
@@ -156,10 +156,10 @@ bigs test bits exits one rest =
 
 -- two jumps to the exits, so that those of the piece are near
 abbrev pub fails_jump : Exits → List Ins → List Ins
-fails_jump exits rest = jump_over (length rest - exits.fails) ∷ rest
+fails_jump exits rest = jump_over (over rest exits.fails) ∷ rest
 
 abbrev pub jumps : Exits → List Ins → List Ins
-jumps exits rest = let other = fails_jump exits rest in jump_over (length other - exits.holds) ∷ other
+jumps exits rest = let other = fails_jump exits rest in jump_over (over other exits.holds) ∷ other
 
 abbrev pub near_exits : Exits → List Ins → Exits
 near_exits exits rest = record { holds = length (jumps exits rest); fails = length (fails_jump exits rest) }

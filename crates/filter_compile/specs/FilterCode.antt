@@ -1,5 +1,5 @@
 -- Inner: the programs of filters. `and`, `or` and `not` take no instruction.
-use Rattle.std.specs.Prelude.{ℕ, ◌-◌, List, ◌∷◌, length, nat_lt, if◌then◌else◌}
+use Rattle.std.specs.Prelude.{ℕ, List, ◌∷◌, length, nat_lt, if◌then◌else◌}
 use Rattle.bpf_code.specs.declared.instruction.Ins.{Ins}
 use Rattle.jump_islands.specs.Source.{jump_over}
 use Rattle.rule_compile.specs.RuleCode.{verdicts}
@@ -7,7 +7,7 @@ use Rattle.filter.specs.FilterTree.{FilterTree, FilterTrees, test, all, any, neg
 use Rattle.filter_compile.specs.declared.exits.Exits.{Exits}
 use Rattle.filter_compile.specs.Entered.{Entered, whole}
 use Rattle.filter_compile.specs.PieceOfTest.{test_code}
-use Rattle.filter_compile.specs.Pieces.{turned}
+use Rattle.filter_compile.specs.Pieces.{turned, over}
 
 -- In front of a rest, with these exits. A list of no filters begins at an exit.
 abbrev mutual
@@ -31,7 +31,7 @@ abbrev mutual
 
 -- the program from its entry on
 abbrev pub from_entry : List Ins → ℕ → List Ins
-from_entry code entry = if nat_lt entry (length code) then jump_over (length code - entry) ∷ code else code
+from_entry code entry = if nat_lt entry (length code) then jump_over (over code entry) ∷ code else code
 
 -- the exits: a match, and no match
 abbrev pub last_exits : Exits

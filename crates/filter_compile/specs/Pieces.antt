@@ -2,7 +2,7 @@
 -- first: each piece stands in front of the rest. A piece has two exits, places further on, each as the number of
 -- instructions from it to the end. From its first instruction a run comes to the one exit where the piece's fact holds,
 -- and to the other where it doesn't; either may be far. So `not` turns the exits, and `and` and `or` only choose them.
-use Rattle.std.specs.Prelude.{ℕ, zero, suc, ◌+◌, ◌-◌, ◌*◌, ◌/◌, List, [], ◌∷◌, length, slice_index, ◌==◌, nat_lt, if◌then◌else◌}
+use Rattle.std.specs.Prelude.{ℕ, zero, suc, ◌+◌, ◌-◌, ◌*◌, ◌/◌, List, [], ◌∷◌, length, min, slice_index, ◌==◌, nat_lt, if◌then◌else◌}
 use Rattle.bpf_code.specs.declared.instruction.Ins.{Ins}
 use Rattle.bpf_code.specs.declared.operation.Arithmetic.TheVariants.{Add, Sub}
 use Rattle.bpf_code.specs.declared.operation.Op.TheVariants.{Compute}
@@ -48,9 +48,14 @@ either f g exits rest = f (fails_next exits (g exits rest)) (g exits rest)
 
 -- ---- comparisons
 
+-- How many instructions of a program stand before a place, which is the number of those from it to the end. A place is at least
+-- the last instruction.
+unfoldable pub over : List Ins → ℕ → ℕ
+over rest place = min (length rest - place) (length rest - 1)
+
 -- a comparison of A with a number
 abbrev pub fork : Test → ℕ → Piece
-fork test k exits rest = branch test k (length rest - exits.holds) (length rest - exits.fails) ∷ rest
+fork test k exits rest = branch test k (over rest exits.holds) (over rest exits.fails) ∷ rest
 
 -- the word of the image at a place passes a comparison
 abbrev pub word_test : ℕ → Test → ℕ → Piece

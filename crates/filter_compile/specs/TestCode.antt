@@ -1,7 +1,6 @@
 -- Inner: the pieces of tests.
 use Rattle.std.specs.Prelude.{ℕ, ◌+◌, ◌%◌, ◌^◌, Bool, true, false, List, [], ◌∷◌, nat_lt, if◌then◌else◌}
 use Rattle.std.specs.Str.{bytes_eq}
-use Rattle.bpf_code.specs.declared.instruction.Ins.{Ins}
 use Rattle.bpf_code.specs.declared.operation.Arithmetic.TheVariants.{Sub}
 use Rattle.bpf_code.specs.declared.operation.Op.TheVariants.{Compute, LoadLength}
 use Rattle.bpf_code.specs.declared.operation.Operand.TheVariants.{Constant}
@@ -12,7 +11,7 @@ use Rattle.message_view.specs.declared.extent.TextField as view
 use Rattle.message_view.specs.declared.extent.TextField.TheVariants as view_fields
 use Rattle.match_key.specs.ArgNumber.{number_of_arg}
 use Rattle.summary.specs.declared.edition.Edition.TheVariants.{Two}
-use Rattle.summary.specs.Layout.{flags_place, body_words_place, count_place, text_place, argument_place, ownership_place, serial_place, reply_serial_place, summary_len}
+use Rattle.summary.specs.Layout.{text_place, argument_place, ownership_place, reply_serial_place, summary_len}
 use Rattle.rule_compile.specs.Code.{plain, image_word}
 use Rattle.filter.specs.declared.integer.Integer.{Integer}
 use Rattle.filter.specs.declared.integer.Integer.TheVariants.{Natural, Negative}
@@ -22,8 +21,6 @@ use Rattle.filter.specs.declared.test.Field.{Field}
 use Rattle.filter.specs.declared.test.Field.TheVariants as fields
 use Rattle.filter.specs.declared.test.NumberRelation.{NumberRelation}
 use Rattle.filter.specs.declared.test.NumberRelation.TheVariants as numbers
-use Rattle.filter.specs.declared.test.NumberSource.{NumberSource}
-use Rattle.filter.specs.declared.test.NumberSource.TheVariants as sources
 use Rattle.filter.specs.declared.test.Scope.{Scope}
 use Rattle.filter.specs.declared.test.Scope.TheVariants.{PathNamespace, ArgNamespace, ArgPath}
 use Rattle.filter.specs.declared.test.TextField.{TextField}
@@ -113,16 +110,6 @@ text_code_of names source relation value =
 
 -- ---- numbers of the header
 
--- A becomes the number; of `length` it is what the image has beside its summary
-abbrev pub number_load : NumberSource → List Ins → List Ins
-number_load sources.Serial rest = image_word serial_place ∷ rest
-number_load sources.ReplySerial rest = image_word reply_serial_place ∷ rest
-number_load sources.Flags rest = image_word flags_place ∷ rest
-number_load sources.BodyLength rest = image_word (body_words_place + 4) ∷ rest
-number_load sources.Args rest = image_word count_place ∷ rest
-number_load sources.Length rest = plain LoadLength 0 ∷ plain (Compute Sub Constant) (summary_len Two) ∷ rest
-number_load (sources.Arg n) rest = rest
-
 -- the comparison of a relation, or of its opposite
 abbrev pub comparison_of : NumberRelation → machine.Test
 comparison_of numbers.Equal = Equal
@@ -160,17 +147,21 @@ abbrev pub compare : machine.Test → Integer → Piece
 compare test (Natural n) = compare_natural test n
 compare test (Negative n) = compare_negative test
 
+-- A is in a relation to an integer
 abbrev pub number_relates : NumberRelation → Integer → Piece
 number_relates relation value = says (equality_of relation) (compare (comparison_of relation) value)
 
-abbrev pub number_compared : NumberSource → NumberRelation → Integer → Piece
-number_compared source relation value exits rest = number_load source (number_relates relation value exits rest)
+-- so is the word of the image at a place
+abbrev pub word_number : ℕ → NumberRelation → Integer → Piece
+word_number at relation value exits rest = image_word at ∷ number_relates relation value exits rest
 
 -- a REPLY_SERIAL isn't always there
-abbrev pub header_number : NumberSource → NumberRelation → Integer → Piece
-header_number sources.ReplySerial relation value =
-    both (is_there reply_serial_place) (number_compared sources.ReplySerial relation value)
-header_number source relation value = number_compared source relation value
+abbrev pub reply_serial : NumberRelation → Integer → Piece
+reply_serial relation value = both (is_there reply_serial_place) (word_number reply_serial_place relation value)
+
+-- so is the length of the message: what the image has beside its summary
+abbrev pub message_len : NumberRelation → Integer → Piece
+message_len relation value exits rest = plain LoadLength 0 ∷ plain (Compute Sub Constant) (summary_len Two) ∷ number_relates relation value exits rest
 
 -- ---- paths and names
 

@@ -4,7 +4,7 @@ ghost use Rattle.bpf_code.specs.Table.{op_of};
 ghost use Rattle.jump_islands.specs.Source.{is_plain_op, jump_over, AreWellMade};
 ghost use Rattle.rule_compile.specs.Code.{plain, image_word, load_indexed, index_from_a};
 ghost use Rattle.rule_compile.specs.RuleCode.{verdicts};
-ghost use Rattle.filter_compile.specs.Pieces.{holds_next, fails_next, fork, word_test, indexed_test};
+ghost use Rattle.filter_compile.specs.Pieces.{over, holds_next, fails_next, fork, word_test, indexed_test};
 ghost use Rattle.filter_compile.specs.FilterCode.{from_entry};
 ghost use Rattle.filter_compile.specs.Sound.{IsOfPiece};
 
@@ -60,13 +60,11 @@ impl Code {
 
     /// The program, whose first instruction is the one with `entry` instructions from it to the end.
     pub(crate) fn finish(mut self, entry: usize) -> Result<SourceProgram, AllocError>
-        requires { 0 < entry }
         ensures value { IfOk result (λ source. source ≡ from_entry self entry) }
         ensures made { IfOk result AreWellMade }
     {
-        let len = self.len();
-        if entry < len {
-            self.put_jump(len - entry)?;
+        if entry < self.len() {
+            self.put_jump(entry)?;
         }
         Ok(self.source)
     }
@@ -79,10 +77,20 @@ impl Code {
         self.source.len()
     }
 
+    /// How many instructions stand before a place, which is the number of instructions from it to the end. It is at least the
+    /// last one.
+    #[tactic(auto, unfolding(crate::specs::Pieces::over))]
+    fn over(&self, place: usize) -> usize
+        ensures value { result ≡ over self.now place }
+        ensures inside { result < length self.now }
+    {
+        let len = self.len();
+        len.saturating_sub(place).min(len - 1)
+    }
+
     /// The exits of a piece after which the program goes on at its first instruction where the fact holds.
     pub(crate) fn holds_next(&self, exits: Exits) -> Exits
-        ensures value { result ≡ holds_next exits self.now }
-        ensures some { 0 < result.holds }
+        ensures { result ≡ holds_next exits self.now }
     {
         Exits {
             holds: self.len(),
@@ -92,8 +100,7 @@ impl Code {
 
     /// Those where it does so where the fact doesn't hold.
     pub(crate) fn fails_next(&self, exits: Exits) -> Exits
-        ensures value { result ≡ fails_next exits self.now }
-        ensures some { 0 < result.fails }
+        ensures { result ≡ fails_next exits self.now }
     {
         Exits {
             holds: exits.holds,
@@ -111,24 +118,21 @@ impl Code {
         Ok(())
     }
 
-    /// Puts a jump over instructions in front.
-    pub(crate) fn put_jump(&mut self, over: usize) -> Result<(), AllocError>
-        requires { over < length self.old }
-        ensures { OnOk result (self.new ≡ jump_over over ∷ self.old) }
+    /// Puts a jump to a place in front.
+    pub(crate) fn put_jump(&mut self, place: usize) -> Result<(), AllocError>
+        ensures { OnOk result (self.new ≡ jump_over (over self.old place) ∷ self.old) }
     {
+        let over = self.over(place);
         self.source.put_jump(over)?;
         Ok(())
     }
 
     /// A comparison of A with a number.
     pub(crate) fn fork(&mut self, test: Test, k: u32, exits: Exits) -> Result<(), AllocError>
-        requires holds { 0 < exits.holds }
-        requires fails { 0 < exits.fails }
         ensures { OnOk result (self.new ≡ fork test k exits self.old) }
     {
-        let len = self.len();
-        let hit = len.saturating_sub(exits.holds);
-        let miss = len.saturating_sub(exits.fails);
+        let hit = self.over(exits.holds);
+        let miss = self.over(exits.fails);
         self.source
             .put_branch(test, Operand::Constant, k, hit, miss)?;
         Ok(())
@@ -157,9 +161,7 @@ impl Code {
         k: u32,
         exits: Exits,
     ) -> Result<(), AllocError>
-        requires place { IsOfPiece (Op.LoadImage Width.Word) at }
-        requires holds { 0 < exits.holds }
-        requires fails { 0 < exits.fails }
+        requires { IsOfPiece (Op.LoadImage Width.Word) at }
         ensures { OnOk result (self.new ≡ word_test at test k exits self.old) }
     {
         self.fork(test, k, exits)?;
@@ -175,8 +177,6 @@ impl Code {
         k: u32,
         exits: Exits,
     ) -> Result<(), AllocError>
-        requires holds { 0 < exits.holds }
-        requires fails { 0 < exits.fails }
         ensures { OnOk result (self.new ≡ indexed_test width at test k exits self.old) }
     {
         self.fork(test, k, exits)?;

@@ -1,5 +1,5 @@
 // Where a piece of a program goes on.
-ghost use Rattle.std.specs.Prelude.{◌≡◌, ◌<◌};
+ghost use Rattle.std.specs.Prelude.{◌≡◌};
 ghost use Rattle.filter_compile.specs.Pieces.{turned};
 ghost use Rattle.filter_compile.specs.TestCode.{exits_for};
 
@@ -27,9 +27,7 @@ impl Exits {
 
     /// Those of a piece that is to hold, or not to.
     pub(crate) fn for_equality(self, equality: Equality) -> Exits
-        ensures value { result ≡ exits_for equality self }
-        ensures holds { 0 < self.holds → 0 < self.fails → 0 < result.holds }
-        ensures fails { 0 < self.holds → 0 < self.fails → 0 < result.fails }
+        ensures { result ≡ exits_for equality self }
     {
         match equality {
             Equality::Equal => self,

@@ -5,16 +5,20 @@
 mod arg_number;
 mod code;
 mod compiling;
+mod digits;
 mod error;
 mod exits;
+mod integer_type;
 mod names;
 mod nested;
 mod number;
 mod scope;
+mod sign;
 mod test;
 mod test_bytes;
 mod text;
 mod tree;
+mod type_entries;
 mod verdict;
 
 pub use compiling::compile;

@@ -45,8 +45,6 @@ impl Code {
     ) -> Result<(), AllocError>
         requires some { 0 < length part.now }
         requires fits { place + length part.now < 2 ^ 32 }
-        requires holds { 0 < exits.holds }
-        requires fails { 0 < exits.fails }
         ensures { OnOk result (self.new ≡ part_test test at place part.now exits self.old) }
     {
         let end = (place + part.len()) as u32;
@@ -65,8 +63,6 @@ impl Code {
     ) -> Result<(), AllocError>
         requires some { 0 < length part.now }
         requires fits { place + length part.now < 2 ^ 32 }
-        requires holds { 0 < exits.holds }
-        requires fails { 0 < exits.fails }
         ensures { OnOk result (self.new ≡ follow_parts at place (part.now ∷ []) exits self.old) }
     {
         if ends_with_slash(part) {
@@ -86,8 +82,6 @@ impl Code {
     ) -> Result<(), AllocError>
         requires some { 0 < length part.now }
         requires fits { place + length part.now < 2 ^ 32 }
-        requires holds { 0 < exits.holds }
-        requires fails { 0 < exits.fails }
         ensures { OnOk result (self.new ≡ inner_part at place part.now exits self.old) }
     {
         let end = (place + part.len()) as u32;
@@ -101,8 +95,6 @@ impl Code {
     fn follow_parts(&mut self, at: u16, value: &[u8], exits: Exits) -> Result<(), AllocError>
         requires some { 0 < length value.now }
         requires fits { length value.now < 2 ^ 32 }
-        requires holds { 0 < exits.holds }
-        requires fails { 0 < exits.fails }
         ensures { OnOk result (self.new ≡ follow_parts at 0 (parts_of value.now) exits self.old) }
     {
         let mut start = part_start(value, value.len());
@@ -117,9 +109,7 @@ impl Code {
 
     /// The text equals the value, or one of them ends with `/` and begins the other.
     pub(crate) fn is_nested(&mut self, value: &str, at: u16, exits: Exits) -> Result<(), AllocError>
-        requires fits { length value.now < 2 ^ 32 }
-        requires holds { 0 < exits.holds }
-        requires fails { 0 < exits.fails }
+        requires { length value.now < 2 ^ 32 }
         ensures { OnOk result (self.new ≡ is_nested value.now at exits self.old) }
     {
         if value.is_empty() {

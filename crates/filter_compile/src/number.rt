@@ -1,22 +1,25 @@
-// The numbers of the header, and how many arguments and bytes there are.
-ghost use Rattle.std.specs.Prelude.{◌≡◌, ◌<◌, ◌^◌, OnOk};
-ghost use Rattle.filter_compile.specs.TestCode.{number_load, comparison_of, equality_of, never, always, compare_natural, compare_negative, compare, number_relates, header_number};
+// Numbers that are compared with integers: those of the header, and how many arguments and bytes there are.
+ghost use Rattle.std.specs.Prelude.{◌≡◌, ◌<◌, OnOk};
+ghost use Rattle.filter_compile.specs.Sound.{IsOfPiece};
+ghost use Rattle.filter_compile.specs.TestCode.{comparison_of, equality_of, never, always, compare_natural, compare_negative, compare, number_relates, word_number, reply_serial, message_len};
+ghost use Rattle.filter_compile.specs.PieceOfTest.{number_code};
 
 use crate::code::Code;
 use crate::exits::Exits;
-use crate::test::REPLY_SERIAL_PLACE;
-use bpf_code::{Arithmetic, Op, Operand, Test};
+use bpf_code::{Arithmetic, Op, Operand, Test, Width};
 use filter::{Equality, Integer, NumberRelation, NumberSource};
 use std::alloc::AllocError;
 
-/// The words of the flags, of the body's length, of the number of arguments and of the serial.
-const FLAGS_PLACE: u32 = 8;
+/// The words of the flags, of the body's length, of the number of arguments, of the serial, and of the one that is answered.
+pub(crate) const FLAGS_PLACE: u32 = 8;
 
 const BODY_LEN_PLACE: u32 = 16;
 
-const COUNT_PLACE: u32 = 20;
+pub(crate) const COUNT_PLACE: u32 = 20;
 
 const SERIAL_PLACE: u32 = 968;
+
+pub(crate) const REPLY_SERIAL_PLACE: u16 = 972;
 
 /// How many bytes a summary has.
 const SUMMARY_LEN: u32 = 976;
@@ -50,8 +53,6 @@ pub(crate) fn equality_of(relation: NumberRelation) -> Equality
 impl Code {
     /// No word passes.
     fn never(&mut self, exits: Exits) -> Result<(), AllocError>
-        requires holds { 0 < exits.holds }
-        requires fails { 0 < exits.fails }
         ensures { OnOk result (self.new ≡ never exits self.old) }
     {
         self.fork(Test::Above, u32::MAX, exits)
@@ -59,8 +60,6 @@ impl Code {
 
     /// Each word passes.
     fn always(&mut self, exits: Exits) -> Result<(), AllocError>
-        requires holds { 0 < exits.holds }
-        requires fails { 0 < exits.fails }
         ensures { OnOk result (self.new ≡ always exits self.old) }
     {
         self.fork(Test::AtLeast, 0, exits)
@@ -68,8 +67,6 @@ impl Code {
 
     /// A passes a comparison with an integer from 0 on.
     fn compare_natural(&mut self, test: Test, n: u64, exits: Exits) -> Result<(), AllocError>
-        requires holds { 0 < exits.holds }
-        requires fails { 0 < exits.fails }
         ensures { OnOk result (self.new ≡ compare_natural test n exits self.old) }
     {
         match test {
@@ -86,8 +83,6 @@ impl Code {
 
     /// A passes a comparison with an integer below 0.
     fn compare_negative(&mut self, test: Test, exits: Exits) -> Result<(), AllocError>
-        requires holds { 0 < exits.holds }
-        requires fails { 0 < exits.fails }
         ensures { OnOk result (self.new ≡ compare_negative test exits self.old) }
     {
         match test {
@@ -98,8 +93,6 @@ impl Code {
 
     /// A passes a comparison with an integer.
     fn compare(&mut self, test: Test, value: Integer, exits: Exits) -> Result<(), AllocError>
-        requires holds { 0 < exits.holds }
-        requires fails { 0 < exits.fails }
         ensures { OnOk result (self.new ≡ compare test value exits self.old) }
     {
         match value {
@@ -108,45 +101,80 @@ impl Code {
         }
     }
 
-    /// A becomes the number.
-    fn number_load(&mut self, source: NumberSource) -> Result<(), AllocError>
-        ensures { OnOk result (self.new ≡ number_load source self.old) }
+    /// A is in the relation to an integer.
+    fn number_relates(
+        &mut self,
+        relation: NumberRelation,
+        value: Integer,
+        exits: Exits,
+    ) -> Result<(), AllocError>
+        ensures { OnOk result (self.new ≡ number_relates relation value exits self.old) }
     {
-        match source {
-            NumberSource::Serial => self.image_word(SERIAL_PLACE),
-            NumberSource::ReplySerial => self.image_word(u32::from(REPLY_SERIAL_PLACE)),
-            NumberSource::Flags => self.image_word(FLAGS_PLACE),
-            NumberSource::BodyLength => self.image_word(BODY_LEN_PLACE),
-            NumberSource::Args => self.image_word(COUNT_PLACE),
-            NumberSource::Length => {
-                self.put(Op::Compute(Arithmetic::Sub, Operand::Constant), SUMMARY_LEN)?;
-                self.put(Op::LoadLength, 0)
-            }
-            NumberSource::Arg(_) => Ok(()),
-        }
+        let chosen = exits.for_equality(equality_of(relation));
+        self.compare(comparison_of(relation), value, chosen)
     }
 
-    /// The number is in the relation to an integer.
-    pub(crate) fn header_number(
+    /// So is the word of the image at a place.
+    fn word_number(
+        &mut self,
+        at: u32,
+        relation: NumberRelation,
+        value: Integer,
+        exits: Exits,
+    ) -> Result<(), AllocError>
+        requires { IsOfPiece (Op.LoadImage Width.Word) at }
+        ensures { OnOk result (self.new ≡ word_number at relation value exits self.old) }
+    {
+        self.number_relates(relation, value, exits)?;
+        self.image_word(at)
+    }
+
+    /// So is the serial that is answered, if one is.
+    fn reply_serial(
+        &mut self,
+        relation: NumberRelation,
+        value: Integer,
+        exits: Exits,
+    ) -> Result<(), AllocError>
+        ensures { OnOk result (self.new ≡ reply_serial relation value exits self.old) }
+    {
+        self.word_number(u32::from(REPLY_SERIAL_PLACE), relation, value, exits)?;
+        let next = self.holds_next(exits);
+        self.is_there(REPLY_SERIAL_PLACE, next)
+    }
+
+    /// So is the length of the message: what the image has besides its summary.
+    fn message_len(
+        &mut self,
+        relation: NumberRelation,
+        value: Integer,
+        exits: Exits,
+    ) -> Result<(), AllocError>
+        ensures { OnOk result (self.new ≡ message_len relation value exits self.old) }
+    {
+        self.number_relates(relation, value, exits)?;
+        self.put(Op::Compute(Arithmetic::Sub, Operand::Constant), SUMMARY_LEN)?;
+        self.put(Op::LoadLength, 0)
+    }
+
+    /// The number at a source is in the relation to an integer.
+    pub(crate) fn number(
         &mut self,
         source: NumberSource,
         relation: NumberRelation,
         value: Integer,
         exits: Exits,
     ) -> Result<(), AllocError>
-        requires holds { 0 < exits.holds }
-        requires fails { 0 < exits.fails }
-        ensures { OnOk result (self.new ≡ header_number source relation value exits self.old) }
+        ensures { OnOk result (self.new ≡ number_code source relation value exits self.old) }
     {
-        let chosen = exits.for_equality(equality_of(relation));
-        self.compare(comparison_of(relation), value, chosen)?;
-        self.number_load(source)?;
         match source {
-            NumberSource::ReplySerial => {
-                let next = self.holds_next(exits);
-                self.is_there(REPLY_SERIAL_PLACE, next)
-            }
-            _ => Ok(()),
+            NumberSource::Serial => self.word_number(SERIAL_PLACE, relation, value, exits),
+            NumberSource::ReplySerial => self.reply_serial(relation, value, exits),
+            NumberSource::Flags => self.word_number(FLAGS_PLACE, relation, value, exits),
+            NumberSource::BodyLength => self.word_number(BODY_LEN_PLACE, relation, value, exits),
+            NumberSource::Args => self.word_number(COUNT_PLACE, relation, value, exits),
+            NumberSource::Length => self.message_len(relation, value, exits),
+            NumberSource::Arg(n) => self.arg_number(n, relation, value, exits),
         }
     }
 }

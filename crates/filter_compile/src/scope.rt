@@ -25,8 +25,6 @@ fn scope_words(scope: Scope) -> u16
 impl Code {
     /// The text ends after `len` bytes, or a separator follows.
     fn end_or(&mut self, separator: u8, len: u32, at: u16, exits: Exits) -> Result<(), AllocError>
-        requires holds { 0 < exits.holds }
-        requires fails { 0 < exits.fails }
         ensures { OnOk result (self.new ≡ end_or separator len at exits self.old) }
     {
         self.indexed_test(Width::Byte, len, Test::Equal, u32::from(separator), exits)?;
@@ -36,8 +34,7 @@ impl Code {
 
     /// The bytes of a value, if it has some, in front of the piece that comes first in the code.
     fn bytes_before(&mut self, value: &str, exits: Exits) -> Result<(), AllocError>
-        requires fits { length value.now < 2 ^ 32 }
-        requires fails { 0 < exits.fails }
+        requires { length value.now < 2 ^ 32 }
         ensures { OnOk result (self.new ≡ bytes_before value.now exits self.old) }
     {
         if value.is_empty() {
@@ -55,9 +52,7 @@ impl Code {
         at: u16,
         exits: Exits,
     ) -> Result<(), AllocError>
-        requires fits { length value.now < 2 ^ 32 }
-        requires holds { 0 < exits.holds }
-        requires fails { 0 < exits.fails }
+        requires { length value.now < 2 ^ 32 }
         ensures { OnOk result (self.new ≡ in_namespace separator value.now at exits self.old) }
     {
         let len = value.len() as u32;
@@ -70,9 +65,7 @@ impl Code {
 
     /// The path is in the namespace. In that of `/` is any path.
     fn path_within(&mut self, value: &str, at: u16, exits: Exits) -> Result<(), AllocError>
-        requires fits { length value.now < 2 ^ 32 }
-        requires holds { 0 < exits.holds }
-        requires fails { 0 < exits.fails }
+        requires { length value.now < 2 ^ 32 }
         ensures { OnOk result (self.new ≡ path_within value.now at exits self.old) }
     {
         if value == "/" {
@@ -89,9 +82,7 @@ impl Code {
         at: u16,
         exits: Exits,
     ) -> Result<(), AllocError>
-        requires fits { length value.now < 2 ^ 32 }
-        requires holds { 0 < exits.holds }
-        requires fails { 0 < exits.fails }
+        requires { length value.now < 2 ^ 32 }
         ensures { OnOk result (self.new ≡ scope_relates scope value.now at exits self.old) }
     {
         match scope {
@@ -103,8 +94,6 @@ impl Code {
 
     /// The text of a scope is there, of a type that is compared.
     fn has_scope(&mut self, scope: Scope, exits: Exits) -> Result<(), AllocError>
-        requires holds { 0 < exits.holds }
-        requires fails { 0 < exits.fails }
         ensures { OnOk result (self.new ≡ has_scope scope exits self.old) }
     {
         match scope {
@@ -126,9 +115,7 @@ impl Code {
         value: &str,
         exits: Exits,
     ) -> Result<(), AllocError>
-        requires weight { scope_weight scope value.now ≤ 4096 }
-        requires holds { 0 < exits.holds }
-        requires fails { 0 < exits.fails }
+        requires { scope_weight scope value.now ≤ 4096 }
         ensures { OnOk result (self.new ≡ scope_code scope equality value.now exits self.old) }
     {
         let chosen = exits.for_equality(equality);

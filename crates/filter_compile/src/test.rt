@@ -9,21 +9,14 @@ ghost use Rattle.filter_compile.specs.TestCode.{view_field, field_place, has_typ
 use crate::code::Code;
 use crate::exits::Exits;
 use crate::names::{Names, asks_owner};
+use crate::number::{COUNT_PLACE, FLAGS_PLACE, REPLY_SERIAL_PLACE};
 use bpf_code::Width;
 use filter::{
-    ArgNumber, ArgType, Equality, Field, Flag, NumberSource, Test, TextField, TextRelation,
-    TextSource, TextType,
+    ArgNumber, ArgType, Equality, Field, Flag, Test, TextField, TextRelation, TextSource, TextType,
 };
 use message_view::TextField as ViewField;
 use std::alloc::AllocError;
 use summary::{KIND_PLACE, argument_place, ownership_place, text_place};
-
-/// The words of the flags, of the number of arguments, and of the serial that is answered.
-const FLAGS_PLACE: u32 = 8;
-
-const COUNT_PLACE: u32 = 20;
-
-pub(crate) const REPLY_SERIAL_PLACE: u16 = 972;
 
 fn view_field(field: TextField) -> ViewField
     ensures { result ≡ view_field field }
@@ -115,8 +108,6 @@ impl Code {
         code: u8,
         exits: Exits,
     ) -> Result<(), AllocError>
-        requires holds { 0 < exits.holds }
-        requires fails { 0 < exits.fails }
         ensures { OnOk result (self.new ≡ has_type (number_of_arg n) code exits self.old) }
     {
         let place = argument_place(n.number());
@@ -130,8 +121,6 @@ impl Code {
 
     /// The boolean where X points to is this one: its four bytes are 0 for false, in either order.
     fn truth_word(&mut self, truth: bool, exits: Exits) -> Result<(), AllocError>
-        requires holds { 0 < exits.holds }
-        requires fails { 0 < exits.fails }
         ensures { OnOk result (self.new ≡ truth_word truth exits self.old) }
     {
         if truth {
@@ -149,8 +138,6 @@ impl Code {
         truth: bool,
         exits: Exits,
     ) -> Result<(), AllocError>
-        requires holds { 0 < exits.holds }
-        requires fails { 0 < exits.fails }
         ensures { OnOk result (self.new ≡ truth_code (number_of_arg n) equality truth exits self.old) }
     {
         self.truth_word(truth, exits.for_equality(equality))?;
@@ -161,8 +148,6 @@ impl Code {
 
     /// The source has a text.
     fn has_text(&mut self, source: TextSource, exits: Exits) -> Result<(), AllocError>
-        requires holds { 0 < exits.holds }
-        requires fails { 0 < exits.fails }
         ensures { OnOk result (self.new ≡ has_text source exits self.old) }
     {
         match source {
@@ -179,9 +164,7 @@ impl Code {
         at: u16,
         exits: Exits,
     ) -> Result<(), AllocError>
-        requires fits { length value.now < 2 ^ 32 }
-        requires holds { 0 < exits.holds }
-        requires fails { 0 < exits.fails }
+        requires { length value.now < 2 ^ 32 }
         ensures { OnOk result (self.new ≡ text_relates relation value.now at exits self.old) }
     {
         match relation {
@@ -196,8 +179,6 @@ impl Code {
 
     /// The sender owns the name of a slot.
     fn owns(&mut self, slot: u16, exits: Exits) -> Result<(), AllocError>
-        requires holds { 0 < exits.holds }
-        requires fails { 0 < exits.fails }
         ensures { OnOk result (self.new ≡ owns slot exits self.old) }
     {
         let place = ownership_place(slot);
@@ -211,8 +192,6 @@ impl Code {
 
     /// The sender owns the name of a slot, or there is a sender that doesn't.
     fn owner(&mut self, relation: TextRelation, slot: u16, exits: Exits) -> Result<(), AllocError>
-        requires holds { 0 < exits.holds }
-        requires fails { 0 < exits.fails }
         ensures { OnOk result (self.new ≡ owner_code relation slot exits self.old) }
     {
         match relation {
@@ -238,8 +217,6 @@ impl Code {
     ) -> Result<(), AllocError>
         requires names { length names.now ≤ 512 }
         requires weight { text_weight source relation value.now ≤ 4096 }
-        requires holds { 0 < exits.holds }
-        requires fails { 0 < exits.fails }
         ensures { OnOk result (self.new ≡ text_code_of names.now source relation value.now exits self.old) }
     {
         if asks_owner(source, relation, value) {
@@ -260,8 +237,6 @@ pub(crate) fn put_test(
 ) -> Result<(), AllocError>
     requires names { length names.now ≤ 512 }
     requires weight { test_weight test.now ≤ 4096 }
-    requires holds { 0 < exits.holds }
-    requires fails { 0 < exits.fails }
     ensures { OnOk result (code.new ≡ test_code names.now test.now exits code.old) }
 {
     match test {
@@ -299,11 +274,6 @@ pub(crate) fn put_test(
             value.as_str(),
             exits,
         ),
-        Test::Number(NumberSource::Arg(n), relation, value) => {
-            code.arg_number(*n, *relation, *value, exits)
-        }
-        Test::Number(source, relation, value) => {
-            code.header_number(*source, *relation, *value, exits)
-        }
+        Test::Number(source, relation, value) => { code.number(*source, *relation, *value, exits) }
     }
 }

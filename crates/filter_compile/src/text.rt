@@ -58,8 +58,6 @@ impl Code {
     ) -> Result<(), AllocError>
         requires inside { i + unit_len width ≤ length value.now }
         requires fits { at + length value.now < 2 ^ 32 }
-        requires holds { 0 < exits.holds }
-        requires fails { 0 < exits.fails }
         ensures { OnOk result (self.new ≡ same_unit width at value.now i exits self.old) }
     {
         let number = unit_number(width, value, i);
@@ -75,8 +73,6 @@ impl Code {
     ) -> Result<(), AllocError>
         requires some { 0 < length value.now }
         requires fits { at + length value.now < 2 ^ 32 }
-        requires holds { 0 < exits.holds }
-        requires fails { 0 < exits.fails }
         ensures { OnOk result (self.new ≡ same_bytes at value.now exits self.old) }
     {
         let width = unit_of(value);
@@ -97,8 +93,6 @@ impl Code {
         at: u16,
         exits: Exits,
     ) -> Result<(), AllocError>
-        requires holds { 0 < exits.holds }
-        requires fails { 0 < exits.fails }
         ensures { OnOk result (self.new ≡ has_len test len at exits self.old) }
     {
         self.word_test(u32::from(at) + 4, test, len, exits)
@@ -106,8 +100,6 @@ impl Code {
 
     /// The text is there.
     pub(crate) fn is_there(&mut self, at: u16, exits: Exits) -> Result<(), AllocError>
-        requires holds { 0 < exits.holds }
-        requires fails { 0 < exits.fails }
         ensures { OnOk result (self.new ≡ is_there at exits self.old) }
     {
         self.word_test(u32::from(at), Test::Above, 0, exits)
@@ -141,9 +133,7 @@ impl Code {
         at: u16,
         exits: Exits,
     ) -> Result<(), AllocError>
-        requires fits { length value.now < 2 ^ 32 }
-        requires holds { 0 < exits.holds }
-        requires fails { 0 < exits.fails }
+        requires { length value.now < 2 ^ 32 }
         ensures { OnOk result (self.new ≡ front test value.now at exits self.old) }
     {
         if value.is_empty() {
@@ -157,9 +147,7 @@ impl Code {
 
     /// The text ends with the value.
     pub(crate) fn ends(&mut self, value: &str, at: u16, exits: Exits) -> Result<(), AllocError>
-        requires fits { length value.now < 2 ^ 32 }
-        requires holds { 0 < exits.holds }
-        requires fails { 0 < exits.fails }
+        requires { length value.now < 2 ^ 32 }
         ensures { OnOk result (self.new ≡ ends value.now at exits self.old) }
     {
         if value.is_empty() {

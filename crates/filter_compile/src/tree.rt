@@ -23,10 +23,7 @@ pub(crate) fn put_filter(
 ) -> Result<usize, AllocError>
     requires names { length names.now ≤ 512 }
     requires weight { tests_weight (tree_of filter.now) ≤ 4096 }
-    requires holds { 0 < exits.holds }
-    requires fails { 0 < exits.fails }
-    ensures code { IfOk result (λ entry. record { code = code.new; entry = entry } ≡ filter_code names.now (tree_of filter.now) exits code.old) }
-    ensures some { IfOk result (λ entry. 0 < entry) }
+    ensures { IfOk result (λ entry. record { code = code.new; entry = entry } ≡ filter_code names.now (tree_of filter.now) exits code.old) }
 {
     match filter {
         Filter::Test(test) => {
@@ -49,10 +46,7 @@ fn put_all(
 ) -> Result<usize, AllocError>
     requires names { length names.now ≤ 512 }
     requires weight { sum_weight (list_of (map tree_of filters.now)) ≤ 4096 }
-    requires holds { 0 < exits.holds }
-    requires fails { 0 < exits.fails }
-    ensures code { IfOk result (λ entry. record { code = code.new; entry = entry } ≡ all_code names.now (list_of (map tree_of filters.now)) exits.fails (record { code = code.old; entry = exits.holds })) }
-    ensures some { IfOk result (λ entry. 0 < entry) }
+    ensures { IfOk result (λ entry. record { code = code.new; entry = entry } ≡ all_code names.now (list_of (map tree_of filters.now)) exits.fails (record { code = code.old; entry = exits.holds })) }
 {
     let mut next = exits;
     for place in (0..filters.len()).rev() {
@@ -71,10 +65,7 @@ fn put_any(
 ) -> Result<usize, AllocError>
     requires names { length names.now ≤ 512 }
     requires weight { sum_weight (list_of (map tree_of filters.now)) ≤ 4096 }
-    requires holds { 0 < exits.holds }
-    requires fails { 0 < exits.fails }
-    ensures code { IfOk result (λ entry. record { code = code.new; entry = entry } ≡ any_code names.now (list_of (map tree_of filters.now)) exits.holds (record { code = code.old; entry = exits.fails })) }
-    ensures some { IfOk result (λ entry. 0 < entry) }
+    ensures { IfOk result (λ entry. record { code = code.new; entry = entry } ≡ any_code names.now (list_of (map tree_of filters.now)) exits.holds (record { code = code.old; entry = exits.fails })) }
 {
     let mut next = exits;
     for place in (0..filters.len()).rev() {

@@ -48,7 +48,7 @@ tests_has_text_type image n w is = elim (cases_Bool (eqb w 115)) [
 
 -- ---- the types that a relation compares
 
-compared_text_type : (w : ℕ) → IsText w ↔ ((w == 115 || w == 111) ≡ true)
+pub compared_text_type : (w : ℕ) → IsText w ↔ ((w == 115 || w == 111) ≡ true)
 compared_text_type w = (
   λ text. elim text [ inl e ↦ rw e refl | inr e ↦ rw e refl ],
   λ e. elim (cases_Bool (w == 115)) [ inl string ↦ inl (eqb-true w 115 string) | inr other ↦ inr (eqb-true w 111 (rw other at e)) ],
@@ -70,7 +70,7 @@ either true text Q = (λ both. both.1, λ q. (refl, q))
 either false text Q = (λ both. false≢true both.0, λ none. absurd none)
 
 -- the text of an argument whose type is compared
-compared_argument : (relation : Relation) (a : Argument) (Q : List ℕ → Type 0) → ((is_compared relation a.code ≡ true) × IsSomeAnd a.text Q) ↔ IsSomeAnd (compared_text relation (text_in (Some a))) Q
+pub compared_argument : (relation : Relation) (a : Argument) (Q : List ℕ → Type 0) → ((is_compared relation a.code ≡ true) × IsSomeAnd a.text Q) ↔ IsSomeAnd (compared_text relation (text_in (Some a))) Q
 compared_argument relation a Q = go a.text
   where
     go : (t : Option (List ℕ)) → ((is_compared relation a.code ≡ true) × IsSomeAnd t Q) ↔ IsSomeAnd (compared_text relation (option_map {U = ℕ × List ℕ} (λ (text : List ℕ). (a.code, text)) t)) Q
@@ -80,6 +80,13 @@ compared_argument relation a Q = go a.text
 not_compared : (relation : Relation) → is_compared relation 0 ≡ true → ⊥
 not_compared relation e = elim (compared_is_text relation 0 e) [ inl is ↦ omega arith | inr is ↦ omega arith ]
 
+-- some text of which something holds
+pub shown_text : (a : Argument) (t : List ℕ) (Q : List ℕ → Type 0) → a.text ≡ Some t → Q t ↔ IsSomeAnd a.text Q
+shown_text a t Q is = (
+  λ q. subst (λ (o : Option (List ℕ)). IsSomeAnd o Q) (sym is) q,
+  λ q. subst (λ (o : Option (List ℕ)). IsSomeAnd o Q) is q,
+)
+
 -- an argument is there and has a text that the relation compares, of which something holds
 pub turn_argument : (image : List ℕ) (n : ℕ) (relation : Relation) (o : Option Argument) (Q : List ℕ → Type 0) (f g : List Ins → List Ins) → ShowsArgument Two image (argument_place n) o → ((a : Argument) → o ≡ Some a → IsText a.code → (t : List ℕ) × (a.text ≡ Some t)) → Extends f → Extends g → ((t : List ℕ) → Tells image (argument_place n + 4) t → InTurn image (Q t) f g) → InTurn image (IsSomeAnd (compared_text relation (text_in o)) Q) (λ rest. type_code relation n (f rest)) g
 turn_argument image n relation None Q f g shows has extends_f extends_g tail =
@@ -88,7 +95,4 @@ turn_argument image n relation (Some a) Q f g shows has extends_f extends_g tail
     turn_same image _ _ (λ rest. type_code relation n (f rest)) g (compared_argument relation a Q)
     (turn_after image (is_compared relation a.code ≡ true) (IsSomeAnd a.text Q) (type_code relation n) f g (tests_type relation image n a.code shows.code_word) extends_f extends_g (λ c.
     let t = has a refl (compared_is_text relation a.code c) in
-    turn_same image (Q t.0) (IsSomeAnd a.text Q) f g (
-      λ q. subst (λ (o : Option (List ℕ)). IsSomeAnd o Q) (sym t.1) q,
-      λ q. subst (λ (o : Option (List ℕ)). IsSomeAnd o Q) t.1 q,
-    ) (tail t.0 (subst (λ (o : Option (List ℕ)). IfSome o (Tells image (argument_place n + 4))) t.1 shows.text))))
+    turn_same image (Q t.0) (IsSomeAnd a.text Q) f g (shown_text a t.0 Q t.1) (tail t.0 (subst (λ (o : Option (List ℕ)). IfSome o (Tells image (argument_place n + 4))) t.1 shows.text))))

@@ -24,14 +24,14 @@ lies_at image place text i (front, tail, is, at) inside =
     ∙ get_or-append-add front (text ++ tail) i 0
     ∙ get_or_append_left text tail 0 i inside
 
-loads_byte : (image : List ℕ) (place : ℕ) (text : List ℕ) (at : ℕ) → Lies image place text → at + 1 ≤ length text → load_byte image (place + at) ≡ Some (slice_index text at)
+pub loads_byte : (image : List ℕ) (place : ℕ) (text : List ℕ) (at : ℕ) → Lies image place text → at + 1 ≤ length text → load_byte image (place + at) ≡ Some (slice_index text at)
 loads_byte image place text at lies inside =
     let l = lies_inside image place text lies in
     let h : place + at + 1 ≤ length image = omega arith in
     let a = lies_at image place text at lies (omega arith) in
     rw (le-leb (place + at + 1) (length image) h, a) refl
 
-loads_half : (image : List ℕ) (place : ℕ) (text : List ℕ) (at : ℕ) → Lies image place text → at + 2 ≤ length text → load_half image (place + at) ≡ Some (half_number (slice_index text at) (slice_index text (at + 1)))
+pub loads_half : (image : List ℕ) (place : ℕ) (text : List ℕ) (at : ℕ) → Lies image place text → at + 2 ≤ length text → load_half image (place + at) ≡ Some (half_number (slice_index text at) (slice_index text (at + 1)))
 loads_half image place text at lies inside =
     let l = lies_inside image place text lies in
     let h : place + at + 2 ≤ length image = omega arith in
@@ -40,7 +40,7 @@ loads_half image place text at lies inside =
     let b = lies_at image place text (at + 1) lies (omega arith) in
     rw (le-leb (place + at + 2) (length image) h, a, e, b) refl
 
-loads_word : (image : List ℕ) (place : ℕ) (text : List ℕ) (at : ℕ) → Lies image place text → at + 4 ≤ length text → load_word image (place + at) ≡ Some (four (slice_index text at) (slice_index text (at + 1)) (slice_index text (at + 2)) (slice_index text (at + 3)))
+pub loads_word : (image : List ℕ) (place : ℕ) (text : List ℕ) (at : ℕ) → Lies image place text → at + 4 ≤ length text → load_word image (place + at) ≡ Some (four (slice_index text at) (slice_index text (at + 1)) (slice_index text (at + 2)) (slice_index text (at + 3)))
 loads_word image place text at lies inside =
     let l = lies_inside image place text lies in
     let h : place + at + 4 ≤ length image = omega arith in
@@ -85,14 +85,14 @@ AreFour text at a b c d =
     (slice_index text at ≡ a) × (slice_index text (at + 1) ≡ b) × (slice_index text (at + 2) ≡ c) × (slice_index text (at + 3) ≡ d)
 
 -- the bytes of a text from `at` on are those of a value, in a range of the value's places
-abbrev Agree : List ℕ → ℕ → List ℕ → ℕ → ℕ → Type 0
+abbrev pub Agree : List ℕ → ℕ → List ℕ → ℕ → ℕ → Type 0
 Agree text at value from to = (i : ℕ) → from ≤ i → i < to → slice_index text (at + i) ≡ slice_index value i
 
-stands_agree : (text : List ℕ) (at : ℕ) (value : List ℕ) → Stands text at value → Agree text at value 0 (length value)
+pub stands_agree : (text : List ℕ) (at : ℕ) (value : List ℕ) → Stands text at value → Agree text at value 0 (length value)
 stands_agree text at value (rest, is) i low high =
     sym (get_or-drop at text i 0) ∙ ap (λ (bytes : List ℕ). slice_index bytes i) is ∙ get_or_append_left value rest 0 i high
 
-agree_stands : (text : List ℕ) (at : ℕ) (value : List ℕ) → at + length value ≤ length text → Agree text at value 0 (length value) → Stands text at value
+pub agree_stands : (text : List ℕ) (at : ℕ) (value : List ℕ) → at + length value ≤ length text → Agree text at value 0 (length value) → Stands text at value
 agree_stands text at [] inside agree = stands_none text at
 agree_stands text at (a ∷ more) inside agree =
     let e : at + 0 ≡ at = omega arith in
@@ -101,10 +101,10 @@ agree_stands text at (a ∷ more) inside agree =
 
 -- ---- bytes as numbers
 
-two_same : (a b c d : ℕ) → b < 256 → d < 256 → half_number a b ≡ half_number c d → (a ≡ c) × (b ≡ d)
+pub two_same : (a b c d : ℕ) → b < 256 → d < 256 → half_number a b ≡ half_number c d → (a ≡ c) × (b ≡ d)
 two_same a b c d small_b small_d e = (omega arith, omega arith)
 
-four_same : (a b c d e f g h : ℕ) → b < 256 → c < 256 → d < 256 → f < 256 → g < 256 → h < 256 → four a b c d ≡ four e f g h → (a ≡ e) × (b ≡ f) × (c ≡ g) × (d ≡ h)
+pub four_same : (a b c d e f g h : ℕ) → b < 256 → c < 256 → d < 256 → f < 256 → g < 256 → h < 256 → four a b c d ≡ four e f g h → (a ≡ e) × (b ≡ f) × (c ≡ g) × (d ≡ h)
 four_same a b c d e f g h sb sc sd sf sg sh is =
     let x : ((a * 256 + b) * 256 + c ≡ (e * 256 + f) * 256 + g) × (d ≡ h) = two_same ((a * 256 + b) * 256 + c) d ((e * 256 + f) * 256 + g) h sd sh is in
     let y : (a * 256 + b ≡ e * 256 + f) × (c ≡ g) = two_same (a * 256 + b) c (e * 256 + f) g sc sg x.0 in

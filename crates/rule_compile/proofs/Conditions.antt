@@ -44,13 +44,13 @@ use Rattle.rule_compile.proofs.Pieces.{Any, Tests}
 use Rattle.rule_compile.proofs.Combined.{Extends, extends_none, extends_choice, extends_test, tests_none, tests_same, tests_word}
 use Rattle.rule_compile.proofs.InTurn.{InTurn, turn_first, turn_second, turn_then, turn_same}
 use Rattle.rule_compile.proofs.Texts.{tests_is_there, extends_text_len, extends_bytes, turn_is_text, extends_in_namespace, turn_in_namespace}
-use Rattle.rule_compile.proofs.TextArguments.{argument_has_text}
+use Rattle.rule_compile.proofs.TextArguments.{path_has_text}
 use Rattle.rule_compile.proofs.NestedPaths.{extends_is_nested, is_nested_tests}
 use Rattle.rule_compile.proofs.Arguments.{turn_argument}
 
 -- ---- the kind
 
-kind_back : (kind : KindName) → kind_of (kind_byte (kind_meant kind)) ≡ Some (kind_meant kind)
+pub kind_back : (kind : KindName) → kind_of (kind_byte (kind_meant kind)) ≡ Some (kind_meant kind)
 kind_back Signal = refl
 kind_back _ = refl
 
@@ -63,7 +63,7 @@ tests_kind image kind name is known =
 
 -- ---- the sender
 
-bit_shared : (bit power : ℕ) → bit < 2 → 0 < power → not (eqb (bit * power) 0) ≡ eqb bit 1
+pub bit_shared : (bit power : ℕ) → bit < 2 → 0 < power → not (eqb (bit * power) 0) ≡ eqb bit 1
 bit_shared zero power small lit = let e : 0 * power ≡ 0 = omega arith in rw e refl
 bit_shared (suc zero) power small lit =
     let e : 1 * power ≡ 0 → ⊥ = λ h. omega arith in rw (ne_eqb (1 * power) 0 e) refl
@@ -98,7 +98,7 @@ turn_if_there image at None Q g shows extends tail =
 turn_if_there image at (Some text) Q g tells extends tail =
     turn_then image (0 < tells.place) (Q text) (is_there at) g (tests_is_there image Any at tells.place tells.place_word) extends (λ less. tail text tells) (λ q. tells.after_start)
 
-below : (p value : List ℕ) → bytes_eq value (47 ∷ []) ≡ false → ((p ≡ value) ⊎ Begins p (value ++ 47 ∷ [])) ↔ InPathNamespace p value
+pub below : (p value : List ℕ) → bytes_eq value (47 ∷ []) ≡ false → ((p ≡ value) ⊎ Begins p (value ++ 47 ∷ [])) ↔ InPathNamespace p value
 below p value is = (
   λ h. elim h [ inl e ↦ inl e | inr b ↦ inr (inl b) ],
   λ h. elim h [ inl e ↦ inl e | inr b ↦ elim b [ inl s ↦ inr s | inr root ↦ absurd (false≢true (sym is ∙ (bytes_eq-Decides value (47 ∷ [])).1 root)) ] ],
@@ -171,4 +171,4 @@ turn_condition image bytes m slots owned slot (Compares (Header field) relation 
     turn_shown relation image (words_at (Header field)) (field_of field m) value (shows_field image slots m field shows) are
 turn_condition image bytes m slots owned slot (Compares (Arg n) relation value) valid shows slot_small fits are =
     let k : ℕ = number_of_arg n in
-    turn_argument image k relation (slice_get (arguments_of m) k) (λ text. Relates relation text value) (relation_len relation (argument_place k + 4) value) (relation_bytes relation (argument_place k + 4) value) (shows.argument k (let l = number_small n in omega arith)) (λ a is text. argument_has_text bytes m k a valid is text) (extends_len relation (argument_place k + 4) value) (extends_relation relation (argument_place k + 4) value) (λ text tells. turn_told relation image (argument_place k + 4) text value tells are)
+    turn_argument image k relation (slice_get (arguments_of m) k) (λ text. Relates relation text value) (relation_len relation (argument_place k + 4) value) (relation_bytes relation (argument_place k + 4) value) (shows.argument k (let l = number_small n in omega arith)) (λ a is text. path_has_text bytes m k a valid is text) (extends_len relation (argument_place k + 4) value) (extends_relation relation (argument_place k + 4) value) (λ text tells. turn_told relation image (argument_place k + 4) text value tells are)

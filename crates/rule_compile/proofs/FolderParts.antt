@@ -30,7 +30,7 @@ some_front : (b : ℕ) (parts : List (List ℕ)) → 0 < length (with_front b pa
 some_front b [] = omega arith
 some_front b (part ∷ more) = omega arith
 
-some_parts : (text : List ℕ) → 0 < length text → 0 < length (parts_of text)
+pub some_parts : (text : List ℕ) → 0 < length text → 0 < length (parts_of text)
 some_parts [] h = absurd (omega (arith, h))
 some_parts (b ∷ bs) h =
     elim (eqb b 47) as (λ t. 0 < length (cond t ((b ∷ []) ∷ parts_of bs) (with_front b (parts_of bs)))) [ true ↦ omega arith | false ↦ some_front b (parts_of bs) ]
@@ -38,6 +38,32 @@ some_parts (b ∷ bs) h =
 -- what a slice up to the end has
 pub rest_of : (text : List ℕ) (start : ℕ) → take (length text - start) (drop start text) ≡ drop start text
 rest_of text start = ap (λ (n : ℕ). take n (drop start text)) (sym (length-drop start text)) ∙ take-length (drop start text)
+
+-- the part from a start up to the end that another part begins at
+pub part_before : (start end : ℕ) (text : List ℕ) → start < end → end < length text → ((k : ℕ) → start ≤ k → k + 1 < end → get_or text k 0 ≢ 47) → get_or text (end - 1) 0 ≡ 47 → parts_of (drop start text) ≡ take (end - start) (drop start text) ∷ parts_of (drop end text)
+part_before start end text before within one slash =
+    let left = drop start text in
+    let n : ℕ = end - start - 1 in
+    let many : length left ≡ length text - start = length-drop start text in
+    let inside : n < length left = omega arith in
+    let none : (k : ℕ) → k < n → get_or left k 0 ≢ 47 = λ k h. rw get_or-drop (one (start + k) (omega arith) (omega (arith, h))) in
+    let last : get_or left n 0 ≡ 47 = get_or-drop start text n 0 ∙ ap (λ (i : ℕ). get_or text i 0) (let e : start + n ≡ end - 1 = omega arith in e) ∙ slash in
+    let size : suc n ≡ end - start = omega arith in
+    let to : start + suc n ≡ end = omega arith in
+    let same : drop (suc n) left ≡ drop end text = drop-drop (suc n) start text ∙ ap (λ (i : ℕ). drop i text) to in
+    first_part left n inside none last ∙ ap (λ (i : ℕ). take i left ∷ parts_of (drop (suc n) left)) size ∙ ap (λ (rest : List ℕ). take (end - start) left ∷ parts_of rest) same
+
+-- where it ends
+pub part_end : (start end : ℕ) (text : List ℕ) → start < end → end < length text → start + length (take (end - start) (drop start text)) ≡ end
+part_end start end text before within = grind (arith, length-take, length-drop)
+
+-- the last part
+pub part_last : (start : ℕ) (text : List ℕ) → start < length text → ((k : ℕ) → start ≤ k → k + 1 < length text → get_or text k 0 ≢ 47) → parts_of (drop start text) ≡ drop start text ∷ []
+part_last start text within one =
+    let many : length (drop start text) ≡ length text - start = length-drop start text in
+    only_part (drop start text) (omega arith) (λ k h. rw get_or-drop (one (start + k) (omega arith) (omega (arith, h))))
+
+-- ---- the pieces
 
 -- a part of a text in front of others
 abbrev pub inner : ℕ → ℕ → List ℕ → List Ins → List Ins → List Ins
@@ -48,28 +74,15 @@ follow_parts_more : (at place : ℕ) (part : List ℕ) (parts : List (List ℕ))
 follow_parts_more at place part [] rest h = absurd (omega (arith, h))
 follow_parts_more at place part (next ∷ more) rest h = refl
 
--- the part from a start up to the end that another part begins at
 pub follow_parts_before : (at start end : ℕ) (text : List ℕ) (rest : List Ins) → start < end → end < length text → ((k : ℕ) → start ≤ k → k + 1 < end → get_or text k 0 ≢ 47) → get_or text (end - 1) 0 ≡ 47 → follow_parts at start (parts_of (drop start text)) rest ≡ inner at start (take (end - start) (drop start text)) rest (follow_parts at end (parts_of (drop end text)) rest)
 follow_parts_before at start end text rest before within one slash =
-    let left = drop start text in
-    let n : ℕ = end - start - 1 in
-    let many : length left ≡ length text - start = length-drop start text in
-    let inside : n < length left = omega arith in
-    let none : (k : ℕ) → k < n → get_or left k 0 ≢ 47 = λ k h. rw get_or-drop (one (start + k) (omega arith) (omega (arith, h))) in
-    let last : get_or left n 0 ≡ 47 = get_or-drop start text n 0 ∙ ap (λ (i : ℕ). get_or text i 0) (let e : start + n ≡ end - 1 = omega arith in e) ∙ slash in
-    let size : suc n ≡ end - start = omega arith in
-    let cut : parts_of left ≡ take (suc n) left ∷ parts_of (drop (suc n) left) = first_part left n inside none last in
-    let to : start + suc n ≡ end = omega arith in
-    let same : drop (suc n) left ≡ drop end text = drop-drop (suc n) start text ∙ ap (λ (i : ℕ). drop i text) to in
-    let cut_so : parts_of left ≡ take (end - start) left ∷ parts_of (drop end text) = cut ∙ ap (λ (i : ℕ). take i left ∷ parts_of (drop (suc n) left)) size ∙ ap (λ (others : List ℕ). take (end - start) left ∷ parts_of others) same in
+    let part = take (end - start) (drop start text) in
+    let later = parts_of (drop end text) in
     let some_left : 0 < length (drop end text) = rw length-drop (omega arith) in
-    let here : start + length (take (end - start) left) ≡ end = grind (arith, length-take, length-drop) in
-    ap (λ (parts : List (List ℕ)). follow_parts at start parts rest) cut_so ∙ follow_parts_more at start (take (end - start) left) (parts_of (drop end text)) rest (some_parts (drop end text) some_left) ∙ ap (λ (i : ℕ). inner at start (take (end - start) left) rest (follow_parts at i (parts_of (drop end text)) rest)) here
+    ap (λ (parts : List (List ℕ)). follow_parts at start parts rest) (part_before start end text before within one slash)
+    ∙ follow_parts_more at start part later rest (some_parts (drop end text) some_left)
+    ∙ ap (λ (i : ℕ). inner at start part rest (follow_parts at i later rest)) (part_end start end text before within)
 
--- the last part of a text
 pub follow_parts_last : (at start : ℕ) (text : List ℕ) (rest : List Ins) → start < length text → ((k : ℕ) → start ≤ k → k + 1 < length text → get_or text k 0 ≢ 47) → follow_parts at start (parts_of (drop start text)) rest ≡ follow_parts at start (drop start text ∷ []) rest
 follow_parts_last at start text rest within one =
-    let left = drop start text in
-    let many : length left ≡ length text - start = length-drop start text in
-    let cut : parts_of left ≡ left ∷ [] = only_part left (omega arith) (λ k h. rw get_or-drop (one (start + k) (omega arith) (omega (arith, h)))) in
-    ap (λ (parts : List (List ℕ)). follow_parts at start parts rest) cut
+    ap (λ (parts : List (List ℕ)). follow_parts at start parts rest) (part_last start text within one)

@@ -23,11 +23,11 @@ abbrev PartsAreBytes : List (List ℕ) → Type 0
 PartsAreBytes [] = Unit {0}
 PartsAreBytes (part ∷ more) = AreBytes part × PartsAreBytes more
 
-bytes_more : (b : ℕ) (bs : List ℕ) → b < 256 → AreBytes bs → AreBytes (b ∷ bs)
+pub bytes_more : (b : ℕ) (bs : List ℕ) → b < 256 → AreBytes bs → AreBytes (b ∷ bs)
 bytes_more b bs small are zero = small
 bytes_more b bs small are (suc i) = are i
 
-bytes_none : AreBytes []
+pub bytes_none : AreBytes []
 bytes_none i = omega arith
 
 parts_front : (b : ℕ) (parts : List (List ℕ)) → b < 256 → PartsAreBytes parts → PartsAreBytes (with_front b parts)

@@ -1,5 +1,5 @@
 -- A rule's program, with an island of its own for each far target, isn't longer than the rule weighs.
-use Rattle.std.proofs.Common.{◌≡◌, ℕ, zero, suc, ◌+◌, ◌-◌, ◌*◌, ◌≤◌, Bool, true, false, List, [], ◌∷◌, length, refl, arith}
+use Rattle.std.proofs.Common.{◌≡◌, ℕ, zero, suc, ◌+◌, ◌-◌, ◌*◌, ◌≤◌, Bool, List, [], ◌∷◌, length, refl, arith}
 use Rattle.std.specs.Prelude.{◌/◌, ◌%◌, ◌^◌, ◌==◌, if◌then◌else◌, nat_lt, sum_by}
 use Rattle.std.specs.Str.{bytes_eq}
 use Rattle.std.proofs.lemmas.Bool.Decides.{nat_tests}
@@ -9,7 +9,7 @@ use Rattle.bpf_code.specs.declared.operation.Width.TheVariants.{Word, Half, Byte
 use Rattle.bpf_code.specs.declared.operation.Test.{Test}
 use Rattle.bpf_code.specs.declared.operation.Test.TheVariants.{Equal, Above, AtLeast, SharesBit}
 use Rattle.bpf_code.specs.Table.{op_of}
-use Rattle.jump_islands.specs.PlainLength.{is_far, count, span, size_of, sizes_of, plain_length}
+use Rattle.jump_islands.specs.PlainLength.{span, size_of, sizes_of, plain_length}
 use Rattle.match_rule.specs.Bytes.{ends_with}
 use Rattle.match_key.specs.ArgNumber.{number_of_arg}
 use Rattle.match_key.specs.declared.source.Source.TheVariants.{Header, Arg}
@@ -24,31 +24,12 @@ use Rattle.match_key.specs.Kinds.{kind_meant}
 use Rattle.match_rule.specs.Condition.{value_of}
 use Rattle.summary.specs.Layout.{kind_place, text_place, argument_place, ownership_place}
 use Rattle.rule_compile.specs.declared.condition.Part.TheVariants.{Words, Bytes}
-use Rattle.rule_compile.specs.Code.{image_word, load_indexed, index_from_a, branch, want, settle, half_number, same_word, same_words, same_bytes, has_len, is_there, is_there_if, has_text_len, index_text, has_bytes, may_end, in_namespace}
-use Rattle.rule_compile.specs.Folders.{with_front, parts_of, follow_parts, is_nested}
+use Rattle.rule_compile.specs.Code.{image_word, load_indexed, want, settle, half_number, same_word, same_words, same_bytes, has_len, is_there, is_there_if, has_text_len, index_text, has_bytes, may_end, in_namespace}
+use Rattle.rule_compile.specs.Folders.{parts_of, follow_parts, is_nested}
+use Rattle.rule_compile.proofs.Lengths.{total, total_is, total_cons, verdicts_total, branch_total, one_far, index_total, choice_total, weight_of_parts, parts_weight}
 use Rattle.rule_compile.specs.RuleCode.{words_at, owns, relation_len, relation_bytes, there_code, type_code, part_code, rank_of, ranks, of_rank, rising, falling, destination_fits, verdicts, rule_code}
 
 -- ---- single instructions
-
--- the length, which no tactic computes
-total : List Ins → ℕ
-total code = plain_length code
-
--- of two targets one of which is the next instruction at most the other is far
-one_far : (a : ℕ) → count (is_far 0 a) + count (is_far a 0) ≤ 1
-one_far a = grind (arith, nat_tests)
-
-total_cons : (ins : Ins) (rest : List Ins) → total (ins ∷ rest) ≡ size_of (op_of ins.code) ins (sizes_of rest) + total rest
-unfolding total
-total_cons ins rest = sum_by-cons (λ size. size) (size_of (op_of ins.code) ins (sizes_of rest)) (sizes_of rest)
-
-verdicts_total : total verdicts ≡ 2
-unfolding total
-verdicts_total = refl
-
-branch_total : (test : Test) (k hit miss : ℕ) (rest : List Ins) → total (branch test k hit miss ∷ rest) ≡ 1 + count (is_far (span hit (sizes_of rest)) (span miss (sizes_of rest))) + count (is_far (span miss (sizes_of rest)) (span hit (sizes_of rest))) + total rest
-branch_total Equal k hit miss rest = total_cons (branch Equal k hit miss) rest
-branch_total test k hit miss rest = total_cons (branch test k hit miss) rest
 
 want_total : (test : Test) (k : ℕ) (rest : List Ins) → total (want test k rest) ≤ 2 + total rest
 want_total test k rest =
@@ -85,15 +66,8 @@ same_total at (a ∷ b ∷ c ∷ d ∷ more) rest =
     let n = (length more + 3) / 4 in
     omega (arith, word_total at value (length more) (same_words at value n rest), words_total at value n rest)
 
-text_total : (at : ℕ) (rest : List Ins) → total (index_text at rest) ≡ 2 + total rest
-text_total at rest = omega (arith, total_cons (image_word at) (index_from_a ∷ rest), total_cons index_from_a rest)
-
 there_total : (at : ℕ) (rest : List Ins) → total (is_there at rest) ≤ 3 + total rest
 there_total at rest = test_total (image_word at) Above 0 rest refl
-
-choice_total : (b : Bool) (n : ℕ) (hit miss : List Ins) → total hit ≤ n → total miss ≤ n → total (if b then hit else miss) ≤ n
-choice_total true n hit miss h m = h
-choice_total false n hit miss h m = m
 
 len_total : (test : Test) (n at : ℕ) (rest : List Ins) → total (has_len test n at rest) ≤ 3 + total rest
 len_total test n at rest = test_total (image_word (at + 4)) test n rest refl
@@ -104,7 +78,7 @@ text_len_total test n at rest =
     omega (arith, len_total test n at (is_there_if (n == 0) at rest))
 
 bytes_total : (at : ℕ) (value : List ℕ) (rest : List Ins) → total (has_bytes at value rest) ≤ length value + 5 + total rest
-bytes_total at value rest = omega (arith, text_total at (same_bytes 0 value rest), same_total 0 value rest)
+bytes_total at value rest = omega (arith, index_total at (same_bytes 0 value rest), same_total 0 value rest)
 
 may_end_total : (at n : ℕ) (exit rest : List Ins) → total (may_end at n exit rest) ≤ 3 + total rest
 may_end_total at n exit rest =
@@ -119,45 +93,25 @@ namespace_total at separator value rest =
 
 -- ---- paths
 
--- what the parts of a path weigh
-abbrev weight_of_parts : List (List ℕ) → ℕ
-weight_of_parts [] = 0
-weight_of_parts (part ∷ parts) = length part + 9 + weight_of_parts parts
-
 part_total : (test : Test) (at place : ℕ) (part : List ℕ) (rest : List Ins) → total (has_len test (place + length part) at (same_bytes place part rest)) ≤ length part + 6 + total rest
 part_total test at place part rest = omega (arith, len_total test (place + length part) at (same_bytes place part rest), same_total place part rest)
 
-follow_parts_total : (at place : ℕ) (parts : List (List ℕ)) (rest : List Ins) → total (follow_parts at place parts rest) ≤ weight_of_parts parts + total rest
+follow_parts_total : (at place : ℕ) (parts : List (List ℕ)) (rest : List Ins) → total (follow_parts at place parts rest) ≤ weight_of_parts 9 parts + total rest
 follow_parts_total at place [] rest = omega arith
 follow_parts_total at place (part ∷ []) rest =
-    choice_total (ends_with 47 part) (weight_of_parts (part ∷ []) + total rest) _ _ (omega (arith, part_total AtLeast at place part rest)) (omega (arith, part_total Equal at place part rest))
+    choice_total (ends_with 47 part) (weight_of_parts 9 (part ∷ []) + total rest) _ _ (omega (arith, part_total AtLeast at place part rest)) (omega (arith, part_total Equal at place part rest))
 follow_parts_total at place (part ∷ next ∷ more) rest =
     let tail = follow_parts at (place + length part) (next ∷ more) rest in
     let ends = may_end at (place + length part) rest tail in
     omega (arith, part_total AtLeast at place part ends, may_end_total at (place + length part) rest tail, follow_parts_total at (place + length part) (next ∷ more) rest)
 
-front_weight : (b : ℕ) (parts : List (List ℕ)) (n : ℕ) → weight_of_parts parts ≤ n + 9 → weight_of_parts (with_front b parts) ≤ n + 10
-front_weight b [] n h = omega arith
-front_weight b (part ∷ more) n h = omega arith
-
-slashes_cons : (b : ℕ) (bs : List ℕ) → slashes (b ∷ bs) ≡ (if b == 47 then 1 else 0) + slashes bs
-slashes_cons b bs = sum_by-cons (λ byte. if byte == 47 then 1 else 0) b bs
-
-parts_weight : (value : List ℕ) → weight_of_parts (parts_of value) ≤ length value + 9 * slashes value + 9
-parts_weight [] = omega arith
-parts_weight (b ∷ bs) = rw (slashes_cons b bs) (go (b == 47) (parts_weight bs))
-  where
-    go : (slash : Bool) → weight_of_parts (parts_of bs) ≤ length bs + 9 * slashes bs + 9 → weight_of_parts (if slash then (b ∷ []) ∷ parts_of bs else with_front b (parts_of bs)) ≤ length (b ∷ bs) + 9 * ((if slash then 1 else 0) + slashes bs) + 9
-    go true h = omega arith
-    go false h = omega (arith, front_weight b (parts_of bs) (length bs + 9 * slashes bs) h)
-
 nested_total : (at : ℕ) (value : List ℕ) (rest : List Ins) → total (is_nested at value rest) ≤ length value + 9 * slashes value + 11 + total rest
 nested_total at value rest =
     let tail = follow_parts at 0 (parts_of value) rest in
     let a = len_total Equal 0 at rest in
-    let b = text_total at tail in
+    let b = index_total at tail in
     let c = follow_parts_total at 0 (parts_of value) rest in
-    let d = parts_weight value in
+    let d = parts_weight 9 value in
     choice_total (length value == 0) (length value + 9 * slashes value + 11 + total rest) (has_len Equal 0 at rest) (index_text at tail) (omega arith) (omega arith)
 
 -- ---- conditions
@@ -274,5 +228,4 @@ code_total slot rule =
 
 -- with an island for each far target the program isn't longer than the rule weighs
 pub rule_length : (slot : ℕ) (rule : RuleTree) → plain_length (rule_code slot rule) ≤ weight_of rule
-unfolding total
-rule_length slot rule = code_total slot rule
+rule_length slot rule = omega (arith, total_is (rule_code slot rule), code_total slot rule)

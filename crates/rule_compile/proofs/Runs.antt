@@ -27,7 +27,7 @@ slice_get-exit (ins ∷ front) more p =
     ap (slice_get (ins ∷ (front ++ more))) e ∙ slice_get-exit front more p
 
 -- a configuration
-abbrev state : ℕ → ℕ → ℕ → (ℕ → Option ℕ) → State
+abbrev pub state : ℕ → ℕ → ℕ → (ℕ → Option ℕ) → State
 state p a x words = record { place = p; a = a; x = x; words = words }
 
 -- what ends within n steps does so after the front
@@ -71,7 +71,7 @@ ends_after front more image v (suc n) p q a x words e h =
 -- ---- one instruction
 
 -- from the place after a front on
-runs_after : (front more : List Ins) (image : List ℕ) (a x v d : ℕ) → length front ≡ d → RunsTo more image a x v → (n : ℕ) × EndsFrom (front ++ more) image v n (state d a x (λ k. None))
+pub runs_after : (front more : List Ins) (image : List ℕ) (a x v d : ℕ) → length front ≡ d → RunsTo more image a x v → (n : ℕ) × EndsFrom (front ++ more) image v n (state d a x (λ k. None))
 runs_after front more image a x v d is run =
     (run.0, ends_after front more image v run.0 0 d a x (λ k. None) (omega arith) run.1)
 

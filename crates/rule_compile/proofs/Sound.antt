@@ -36,7 +36,8 @@ fine_moved len place op ins h = record {
   load = h.load;
 }
 
-in_front : (ins : Ins) (op : Op) (rest : List Ins) → op_of ins.code ≡ Some op → IsFine (length (ins ∷ rest)) 0 op ins → ((k : ℕ) → Reads k op ins → ⊥) → IsSound rest → IsSound (ins ∷ rest)
+-- an instruction that is fine where it stands, and reads no scratch word
+pub in_front : (ins : Ins) (op : Op) (rest : List Ins) → op_of ins.code ≡ Some op → IsFine (length (ins ∷ rest)) 0 op ins → ((k : ℕ) → Reads k op ins → ⊥) → IsSound rest → IsSound (ins ∷ rest)
 in_front ins op rest row fine none s = record {
   some = omega arith;
   fine = fine_at;

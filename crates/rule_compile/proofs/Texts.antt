@@ -77,7 +77,7 @@ pub extends_bytes : (at : ℕ) (value : List ℕ) → Extends (has_bytes at valu
 extends_bytes at value = extends_index_text (same_bytes 0 value) at (extends_same_bytes 0 value)
 
 -- all of the text
-whole : (text value rest : List ℕ) → text ≡ value ++ rest → length text ≡ length value → text ≡ value
+pub whole : (text value rest : List ℕ) → text ≡ value ++ rest → length text ≡ length value → text ≡ value
 whole text value rest is e =
     let none : rest ≡ [] = nil_from_length rest (omega (arith, ap length is, length-append value rest)) in
     is ∙ ap (λ (bytes : List ℕ). value ++ bytes) none ∙ append-nil value
@@ -109,7 +109,7 @@ pub extends_in_namespace : (at separator : ℕ) (value : List ℕ) → Extends (
 extends_in_namespace at separator value =
     extends_index_text (λ rest. same_bytes 0 value (end_or_separator at (length value) separator rest)) at (extends_named at separator value)
 
-abbrev Separated : List ℕ → ℕ → ℕ → Type 0
+abbrev pub Separated : List ℕ → ℕ → ℕ → Type 0
 Separated text n separator = (n < length text) × (slice_index text n ≡ separator)
 
 tests_end_or_separator : (image : List ℕ) (at : ℕ) (text : List ℕ) (n separator : ℕ) → (tells : Tells image at text) → n ≤ length text → Tests image (At tells.place) ((eqb (length text) n ≡ true) ⊎ Separated text n separator) (end_or_separator at n separator)
@@ -119,10 +119,10 @@ tests_end_or_separator image at text n separator tells few =
     tests_same image (At tells.place) _ _ (λ rest. load_indexed Byte n ∷ want Equal separator rest) (λ e. (less, e), λ both. both.1) (tests_byte image tells.place text n separator tells.lies (omega arith))
     )
 
-abbrev Named : List ℕ → List ℕ → ℕ → Type 0
+abbrev pub Named : List ℕ → List ℕ → ℕ → Type 0
 Named text value separator = (text ≡ value) ⊎ Begins text (value ++ separator ∷ [])
 
-named_rest : (text value : List ℕ) (separator : ℕ) (rest : List ℕ) → text ≡ value ++ rest → Separated text (length value) separator → Begins text (value ++ separator ∷ [])
+pub named_rest : (text value : List ℕ) (separator : ℕ) (rest : List ℕ) → text ≡ value ++ rest → Separated text (length value) separator → Begins text (value ++ separator ∷ [])
 named_rest text value separator [] is (less, at) =
     absurd (omega (arith, ap length is, length-append value []))
 named_rest text value separator (b ∷ rest) is (less, at) =
@@ -130,7 +130,7 @@ named_rest text value separator (b ∷ rest) is (less, at) =
     let same : b ≡ separator = sym here ∙ at in
     (rest, is ∙ ap (λ (c : ℕ). value ++ c ∷ rest) same ∙ sym (append_assoc value (separator ∷ []) rest))
 
-rest_named : (text value : List ℕ) (separator : ℕ) (rest : List ℕ) → text ≡ (value ++ separator ∷ []) ++ rest → (text ≡ value ++ (separator ∷ rest)) × Separated text (length value) separator
+pub rest_named : (text value : List ℕ) (separator : ℕ) (rest : List ℕ) → text ≡ (value ++ separator ∷ []) ++ rest → (text ≡ value ++ (separator ∷ rest)) × Separated text (length value) separator
 rest_named text value separator rest is =
     let e : text ≡ value ++ (separator ∷ rest) = is ∙ append_assoc value (separator ∷ []) rest in
     (e, (omega (arith, ap length e, length-append value (separator ∷ rest)), ap (λ (bytes : List ℕ). slice_index bytes (length value)) e ∙ get_or_at value separator rest 0 (length value) refl))

@@ -9,9 +9,7 @@ put_all-put_filter-requires t c =
     let f = c.index-filters-place.result in
     let inside : i < length fs = omega arith in
     let smaller = smaller_one fs i f inside c.index-filters-place.is in
-    let fails = c.loop-place.invariant.2 in
-    let some = c.requires.fails in
-    (omega (arith, smaller, c.decreases), (c.requires.names, (light_one fs i f inside c.index-filters-place.is c.requires.weight, (c.loop-place.invariant.1, omega arith))))
+    (omega (arith, smaller, c.decreases), (c.requires.names, light_one fs i f inside c.index-filters-place.is c.requires.weight))
 
 pub put_any-put_filter-requires : goal.put_any-put_filter-requires
 put_any-put_filter-requires t c =
@@ -20,6 +18,4 @@ put_any-put_filter-requires t c =
     let f = c.index-filters-place.result in
     let inside : i < length fs = omega arith in
     let smaller = smaller_one fs i f inside c.index-filters-place.is in
-    let holds = c.loop-place.invariant.2 in
-    let some = c.requires.holds in
-    (omega (arith, smaller, c.decreases), (c.requires.names, (light_one fs i f inside c.index-filters-place.is c.requires.weight, (omega arith, c.loop-place.invariant.1))))
+    (omega (arith, smaller, c.decreases), (c.requires.names, light_one fs i f inside c.index-filters-place.is c.requires.weight))

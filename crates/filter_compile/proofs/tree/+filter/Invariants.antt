@@ -1,4 +1,4 @@
-use Rattle.std.proofs.Common.{◌≡◌, ◌<◌, drop, map}
+use Rattle.std.proofs.Common.{◌≡◌, drop, map}
 use Rattle.filter.specs.FilterTree.{list_of}
 use Rattle.filter.specs.Filters.{tree_of}
 use Rattle.filter_compile.specs.FilterCode.{all_code, any_code}
@@ -18,11 +18,9 @@ decreases-put_any l = trees_size (list_of (map tree_of l.filters.now))
 abbrev pub invariant-put_all-loop-place : goal.invariant-put_all-loop-place
 invariant-put_all-loop-place l =
     (record { code = l.code; entry = l.next.holds } ≡ all_code l.names (list_of (map tree_of (drop l.place l.filters))) l.fn.exits.fails (record { code = l.fn.code; entry = l.fn.exits.holds }))
-    × (0 < l.next.holds)
     × (l.next.fails ≡ l.fn.exits.fails)
 
 abbrev pub invariant-put_any-loop-place : goal.invariant-put_any-loop-place
 invariant-put_any-loop-place l =
     (record { code = l.code; entry = l.next.fails } ≡ any_code l.names (list_of (map tree_of (drop l.place l.filters))) l.fn.exits.holds (record { code = l.fn.code; entry = l.fn.exits.fails }))
-    × (0 < l.next.fails)
     × (l.next.holds ≡ l.fn.exits.holds)

@@ -1,14 +1,19 @@
-use Rattle.std.proofs.Common.{◌-◌, drop, take, sym, ap, ◌∙◌, arith, List}
+use Rattle.std.proofs.Common.{◌-◌, [], ◌∷◌, drop, take, sym, ap, ◌∙◌, arith, List}
 use Rattle.bpf_code.specs.declared.instruction.Ins.{Ins}
 use Rattle.rule_compile.proofs.FolderParts.{rest_of}
-use Rattle.filter_compile.specs.Pieces.{inner_part}
+use Rattle.filter_compile.specs.Pieces.{inner_part, follow_parts}
 use Rattle.filter_compile.proofs.NestedPaths.{follow_before, follow_last}
 use Rattle.filter_compile.proofs.code.Code.follow_parts.Goals as goal
 
 pub loop-start-init : goal.loop-start-init
 loop-start-init c =
-    let from = c.part_start-start.ensures in (
-      (rw (rest_of c.args.value.now c.part_start-start.result) at c.in_ok-last_part.ensures) ∙ sym (follow_last c.args.at c.part_start-start.result c.args.value.now c.args.exits c.args.self.now from.before from.one),
+    let at = c.args.at in
+    let value = c.args.value.now in
+    let exits = c.args.exits in
+    let old = c.args.self.now in
+    let from = c.part_start-start.ensures in
+    let start = c.part_start-start.result in (
+      ◌∙◌ {b = follow_parts at start (drop start value ∷ []) exits old} (rw (rest_of value start) at c.in_ok-last_part.ensures) (sym (follow_last at start value exits old from.before from.one)),
       from.before,
       from.slash,
     )

@@ -6,6 +6,6 @@ use Rattle.filter_compile.proofs.code.Code.fork.Goals as goal
 pub invariant_of-self-2 : goal.invariant_of-self-2
 invariant_of-self-2 c =
     let same = ap (λ (code : List Ins). length code) c.self.view_is in
-    let holds = c.requires.holds in
-    let fails = c.requires.fails in
-    rw c.in_ok-put_branch.ensures.put (branch_sound c.args.test c.args.k _ _ c.self.inside.source (omega arith) (omega arith) c.self.invariant)
+    let hit = c.over-hit.ensures.inside in
+    let miss = c.over-miss.ensures.inside in
+    rw c.in_ok-put_branch.ensures.put (branch_sound c.args.test c.args.k _ _ c.self.inside.source (omega (arith, same, hit)) (omega (arith, same, miss)) c.self.invariant)

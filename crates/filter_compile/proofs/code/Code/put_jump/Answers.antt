@@ -6,5 +6,5 @@ use Rattle.filter_compile.proofs.code.Code.put_jump.Goals as goal
 pub invariant_of-self-2 : goal.invariant_of-self-2
 invariant_of-self-2 c =
     let same = ap (λ (code : List Ins). length code) c.self.view_is in
-    let inside = c.requires in
-    rw c.in_ok-put_jump.ensures.put (jump_sound c.args.over c.self.inside.source (omega arith) c.self.invariant)
+    let inside = c.over-over.ensures.inside in
+    rw c.in_ok-put_jump.ensures.put (jump_sound c.over-over.result c.self.inside.source (omega (arith, same, inside)) c.self.invariant)
