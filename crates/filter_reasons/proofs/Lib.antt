@@ -1,0 +1,3 @@
+pub mod FilterSlots
+pub mod TestLines
+pub mod NearTests

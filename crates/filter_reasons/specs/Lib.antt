@@ -1,0 +1,5 @@
+pub mod TestsOf
+pub mod Telling
+pub mod Turned
+pub mod Lent
+pub mod Answered
