@@ -1,3 +1,4 @@
 pub mod Watching
+pub mod Sending
 pub mod Wanting
 pub mod Showing

@@ -30,8 +30,8 @@ PutThere message Refused old new = new ≡ with_shut old
 PutThere message _ old new = ⊥
 
 -- what the monitor wants is put, unless memory is refused or the outbox is shut, and nothing else is
-abbrev pub ShownThere : (List ℕ → Bool → Type 0) → Message → List ℕ → Shown → Watching → Watching → Type 0
-ShownThere answers m bytes Put old new = (new ≡ with_put (message_of bytes) old) × Wants answers m old.rules
-ShownThere answers m bytes Unwanted old new = (new ≡ old) × WantsNot answers m old.rules
-ShownThere answers m bytes Refused old new = (new ≡ with_shut old) × Wants answers m old.rules
-ShownThere answers m bytes LeftOut old new = (new ≡ old) × Wants answers m old.rules
+abbrev pub ShownThere : (List ℕ → Bool → Type 0) → (List ℕ → List ℕ → Bool → Type 0) → Message → List ℕ → Shown → Watching → Watching → Type 0
+ShownThere answers unites m bytes Put old new = (new ≡ with_put (message_of bytes) old) × Wants answers unites m old.rules
+ShownThere answers unites m bytes Unwanted old new = (new ≡ old) × WantsNot answers unites m old.rules
+ShownThere answers unites m bytes Refused old new = (new ≡ with_shut old) × Wants answers unites m old.rules
+ShownThere answers unites m bytes LeftOut old new = (new ≡ old) × Wants answers unites m old.rules

@@ -3,11 +3,11 @@
 //! or one of them holds.
 #![tactic(auto)]
 
+mod asking;
 mod monitor;
 mod monitors;
-mod owner;
 mod shown;
 
+pub use asking::Owners;
 pub use monitors::Monitors;
-pub use owner::Owner;
 pub use routing::Mailbox;

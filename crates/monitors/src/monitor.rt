@@ -3,7 +3,7 @@
 ghost use Rattle.std.specs.Prelude.{◌≡◌, None, IfOk};
 ghost use Rattle.monitors.specs.Showing.{message_of};
 
-use crate::owner::{Owner, any_holds_of};
+use crate::asking::{Owners, any_holds_of, destination_asked};
 use crate::shown::Shown;
 use bytes::Bytes;
 use match_rule::Rule;
@@ -68,20 +68,21 @@ impl<M: Mailbox> Monitor<M> {
         self.number
     }
 
-    /// Whether one of its rules asks for a sender by a name that it owns.
+    /// Whether one of its rules asks for a sender by a name that it owns, or for a destination.
     pub(crate) fn asks_for_owners(&self) -> bool {
-        self.rules.iter().any(|rule| rule.sender_name().is_some())
+        self.rules.iter().any(|rule| rule.sender_name().is_some()
+            || destination_asked(rule).is_some())
     }
 
     /// Whether it wants a message: it has no rules, or one of them holds.
-    pub(crate) fn wants<O: Owner>(&self, view: &View<'_>, owner: &O) -> bool
-        ensures { (m : Message) → Valid view.now m → MatchBool result (Wants (O.answers owner.now) m self.now.rules) (WantsNot (O.answers owner.now) m self.now.rules) }
+    pub(crate) fn wants<O: Owners>(&self, view: &View<'_>, owners: &O) -> bool
+        ensures { (m : Message) → Valid view.now m → MatchBool result (Wants (O.answers owners.now) (O.unites owners.now) m self.now.rules) (WantsNot (O.answers owners.now) (O.unites owners.now) m self.now.rules) }
     {
         let rules = self.rules.as_slice();
         if rules.is_empty() {
             return true;
         }
-        any_holds_of(rules, view, owner)
+        any_holds_of(rules, view, owners)
     }
 
     /// Puts a message, and has it written out.
@@ -98,17 +99,17 @@ impl<M: Mailbox> Monitor<M> {
     }
 
     /// Puts a message, if the monitor wants it, and has it written out.
-    pub(crate) fn show<W: Wait, O: Owner>(
+    pub(crate) fn show<W: Wait, O: Owners>(
         &mut self,
         rt: &W,
         alloc: Global,
         view: &View<'_>,
         bytes: &Bytes,
-        owner: &O,
+        owners: &O,
     ) -> Shown
-        ensures { (m : Message) → Valid view.now m → ShownThere (O.answers owner.now) m bytes.now result self.old self.new }
+        ensures { (m : Message) → Valid view.now m → ShownThere (O.answers owners.now) (O.unites owners.now) m bytes.now result self.old self.new }
     {
-        if !self.wants(view, owner) {
+        if !self.wants(view, owners) {
             return Shown::Unwanted;
         }
         match item_of(alloc, bytes) {

@@ -1,7 +1,7 @@
 // The clients that watch a bus.
 
+use crate::asking::Owners;
 use crate::monitor::Monitor;
-use crate::owner::Owner;
 use bytes::Bytes;
 use match_rule::Rule;
 use message_view::View;
@@ -20,17 +20,20 @@ pub struct Monitors<M: Mailbox> {
 }
 
 /// Shows a message to each monitor, and takes away those whose outbox refuses it.
-fn show_all<M: Mailbox, W: Wait, O: Owner>(
+fn show_all<M: Mailbox, W: Wait, O: Owners>(
     list: &mut Vec<Monitor<M>>,
     rt: &W,
     alloc: Global,
     view: &View<'_>,
     bytes: &Bytes,
-    owner: &O,
+    owners: &O,
 ) {
     let mut place = 0;
     'monitors: while place < list.len() {
-        if list[place].show(rt, alloc, view, bytes, owner).is_refused() {
+        if list[place]
+            .show(rt, alloc, view, bytes, owners)
+            .is_refused()
+        {
             list.remove(place);
         } else {
             place += 1;
@@ -53,7 +56,7 @@ impl<M: Mailbox> Monitors<M> {
         self.count.load(Ordering::SeqCst) == 0
     }
 
-    /// Whether one that watches has a rule that asks for a sender by a name that it owns, without the lock.
+    /// Whether one that watches has a rule that asks who owns a name, without the lock.
     pub fn ask_for_owners(&self) -> bool {
         self.asking.load(Ordering::SeqCst) > 0
     }
@@ -100,20 +103,20 @@ impl<M: Mailbox> Monitors<M> {
     /// Puts a message into the outbox of each monitor with a rule that holds of it, or without rules, and has it
     /// written out. One whose outbox refuses it, since it is full or shut, gets no more, and is taken away. Where
     /// memory is refused the monitor misses the message.
-    pub fn show<W: Wait, O: Owner>(
+    pub fn show<W: Wait, O: Owners>(
         &self,
         rt: &W,
         alloc: Global,
         view: &View<'_>,
         bytes: &Bytes,
-        owner: &O,
+        owners: &O,
     ) {
         if self.is_empty() {
             return;
         }
         let mut list = self.list.lock(rt);
         let count = list.len();
-        show_all(&mut list, rt, alloc, view, bytes, owner);
+        show_all(&mut list, rt, alloc, view, bytes, owners);
         if list.len() < count {
             self.note(&list);
         }
