@@ -1,5 +1,5 @@
 -- Calls that wait for their replies (own).
-use Rattle.std.specs.Prelude.{ℕ, Bool, ◌&&◌, ◌==◌, not, if◌then◌else◌, List, [], ◌∷◌, Option, Some, None, filter}
+use Rattle.std.specs.Prelude.{ℕ, ◌≡◌, Bool, ◌&&◌, ◌==◌, not, if◌then◌else◌, List, [], ◌∷◌, Option, Some, None, filter}
 use Rattle.std.specs.List.{list_any}
 use Rattle.open_calls.specs.declared.open_call.OpenCall.{OpenCall}
 
@@ -36,3 +36,17 @@ oldest_to callee (call ∷ more) = if call.callee == callee then Some call else 
 abbrev pub without_any : Option OpenCall → List OpenCall → List OpenCall
 without_any None calls = calls
 without_any (Some call) calls = without call calls
+
+-- the calls but these, which were taken away one after the other
+abbrev pub without_all : List OpenCall → List OpenCall → List OpenCall
+without_all [] calls = calls
+without_all (call ∷ more) calls = without_all more (without call calls)
+
+-- these are the calls to a connection, each once, in the order in which it was called
+abbrev pub AreCallsTo : ℕ → List OpenCall → List OpenCall → Type 0
+AreCallsTo callee [] calls = oldest_to callee calls ≡ None
+AreCallsTo callee (call ∷ more) calls = (oldest_to callee calls ≡ Some call) × AreCallsTo callee more (without call calls)
+
+-- under how many locks the calls of a bus lie: a connection's under that of its number modulo this
+abbrev pub shard_count : ℕ
+shard_count = 16

@@ -8,4 +8,4 @@ mod shards;
 
 pub use open_call::OpenCall;
 pub use open_calls::OpenCalls;
-pub use shards::Shards;
+pub use shards::{SHARDS, Shards};

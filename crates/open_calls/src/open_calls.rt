@@ -89,6 +89,7 @@ impl OpenCalls {
         ensures call { result ≡ oldest_to callee self.old.calls }
         ensures callee { IfSome result (λ call. call.callee ≡ callee) }
         ensures rest { self.new.calls ≡ without_any result self.old.calls }
+        ensures fewer { IfSome result (λ _. length self.new.calls < length self.old.calls) }
     {
         match oldest_to(&self.calls, callee) {
             Some(call) => {

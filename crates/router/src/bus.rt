@@ -10,7 +10,7 @@ ghost use Rattle.passes.specs.Readings.{AddsMatch, RemovesMatch, Attaches};
 
 use bpf_code::Ins;
 use monitors::Monitors;
-use open_calls::{OpenCall, OpenCalls, Shards};
+use open_calls::{OpenCalls, Shards};
 use outbox::{Tally, Turn};
 use owners::WellKnown;
 use passes::{
@@ -97,17 +97,10 @@ impl<B: BusBrand, M: Mailbox, R: Wait + Drop> Bus<B, M, R> {
     }
 
     /// Waits for the lock of the calls that this connection made and that wait for their replies, and keeps it while the
-    /// guard is there. Others' calls may be among them. Whoever passes on a call keeps it until the call is added, so that
+    /// guard is there. Others' calls may be among them: all calls of the bus lie under the locks of the numbers below `SHARDS`. Whoever passes on a call keeps it until the call is added, so that
     /// no reply comes before it.
     pub fn calls_of(&self, rt: &impl Wait, caller: u64) -> MutexGuard<'_, OpenCalls> {
         self.calls.of_caller(rt, caller)
-    }
-
-    /// Takes away a call to this connection that waits for its reply, if there is one, whoever made it.
-    pub fn take_call_to(&self, rt: &impl Wait, callee: u64) -> Option<OpenCall>
-        ensures { IfSome result (λ call. call.callee ≡ callee) }
-    {
-        self.calls.take_call_to(rt, callee)
     }
 
     /// What those have sent who have left the bus.

@@ -11,7 +11,7 @@ mod watching;
 
 pub use bus::Bus;
 pub use monitors::Monitors;
-pub use open_calls::{OpenCall, OpenCalls};
+pub use open_calls::{OpenCall, OpenCalls, SHARDS};
 pub use passes::{BusError, Control, NameCall, Pass, RouteLists, Sent, Source, Standing};
 pub use plain_mailbox::PlainMailbox;
 pub use routing::OpenGate;
