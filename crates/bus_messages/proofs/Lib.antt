@@ -4,3 +4,4 @@ pub mod NumberArguments
 pub mod Introspecting
 pub mod TextElements
 pub mod PropertyCalls
+pub mod PreparedMessages

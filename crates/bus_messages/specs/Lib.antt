@@ -10,6 +10,7 @@ pub mod Introspection
 pub mod Methods
 pub mod Properties
 pub mod Readings
+pub mod Prepared
 pub mod Rows
 pub mod Sent
 pub use Rattle.unique_name.specs.UniqueNames

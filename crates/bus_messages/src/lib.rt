@@ -12,6 +12,7 @@ mod filter_fault;
 mod interface;
 mod introspect;
 mod laws;
+mod prepared;
 mod property;
 mod reading;
 mod sent;
