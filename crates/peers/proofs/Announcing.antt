@@ -17,7 +17,7 @@ use Rattle.router.specs.Standing.TheVariants as standings
 use Rattle.peers.specs.declared.error.AnswerError.{AnswerError}
 use Rattle.peers.specs.declared.error.AnswerError.TheVariants.{NoMemory}
 use Rattle.peers.specs.Announcements.{IsTold, HasTold, TellsOwner, IsSignalled, HasSignalled, Announces, AnnouncesArrival, told_asked, change_asked, owner_text}
-use Rattle.peers.specs.Answers.{IsPut, IsPutAt, after_serial}
+use Rattle.peers.specs.Answers.{IsPutAt, after_serial}
 use Rattle.peers.specs.Broadcasts.{Broadcasts}
 use Rattle.peers.specs.Passing.{with_pass}
 use Rattle.peers.specs.Arrival.{Registers}
@@ -46,15 +46,6 @@ module _ {M : Type 0} where
   has_signalled standing outbox_of history asked bytes v u w result recipients refused is are err routed same here =
       let P : PeerState M → Type 0 = λ s. Broadcasts standing outbox_of Bus bytes s.pass result recipients refused w.pass in
       (same ∙ ap (λ (s : PeerState M). with_pass s w.pass) is, signalled standing outbox_of asked bytes v.pass w.pass result recipients refused are err (subst P is routed), here)
-
-  -- a signal to the client itself, which says that its unique name is gone, was built with the next serial, and put
-  pub has_lost : (member : List ℕ) (n m serial : ℕ) (to name : List ℕ) (v u w : PeerState M) (built : Result (List ℕ) BuildError) (result : Result (Unit {0}) AnswerError) → u ≡ after_serial v → serial ≡ v.serial → m ≡ n → to ≡ unique_name m → name ≡ unique_name m
-      → Builds (signal_asked serial (Some to) member (name ∷ [])) built → ((asked : Asked) → Builds asked built → IsPut (AreAsked asked) u result w) → IsPut (AreAsked (told_asked v.serial member (unique_name n) n)) (after_serial v) result w
-  has_lost member n m serial to name v u w built result is s e t f b put_as =
-      let B : ℕ → List ℕ → List ℕ → Type 0 = λ k y x. Builds (signal_asked k (Some y) member (x ∷ [])) built in
-      let N : ℕ → Type 0 = λ k. IsPut (AreAsked (told_asked v.serial member (unique_name k) k)) u result w in
-      let P : PeerState M → Type 0 = λ x. IsPut (AreAsked (told_asked v.serial member (unique_name n) n)) x result w in
-      subst P is (subst N e (put_as (told_asked v.serial member (unique_name m) m) (told_built v.serial member (unique_name m) m built (subst (B v.serial (unique_name m)) f (subst (λ y. B v.serial y name) t (subst (λ k. B k to name) s b))))))
 
   -- a signal to one connection was built with the next serial, and sent
   pub has_told : (standing : Standing) (outbox_of : M → OutboxId) (history : List (Command M)) (member name : List ℕ) (n m serial : ℕ) (to : List ℕ) (v u w : PeerState M) (built : Result (List ℕ) BuildError) (result : Result (Unit {0}) AnswerError) → u ≡ after_serial v → serial ≡ v.serial → m ≡ n → to ≡ unique_name m

@@ -11,12 +11,12 @@ use Rattle.peers.specs.PeerState.{PeerState}
 
 module _ {M : Type 0} where
   -- a message with a destination that isn't for the bus
-  pub handled_to : (outbox_of : M → OutboxId) (shares : Shares) (bytes name : List ℕ) (m : Message) (v w : PeerState M) (result : Result (Unit {0}) AnswerError) → is_for_bus m ≡ false → is_known m.kind ≡ true → destination_of m ≡ Some name → HasSent outbox_of bytes name v result w
+  pub handled_to : (outbox_of : M → OutboxId) (shares : Shares) (bytes name : List ℕ) (m : Message) (v w : PeerState M) (result : Result (Unit {0}) AnswerError) → is_for_bus m ≡ false → is_known m.kind ≡ true → destination_of m ≡ Some name → HasSent outbox_of shares bytes name v result w
       → HandledAs outbox_of shares bytes m (is_for_bus m) v result w
   handled_to outbox_of shares bytes name m v w result f k d h =
       let B : Bool → Type 0 = λ b. HandledAs outbox_of shares bytes m b v result w in
-      let K : Bool → Type 0 = λ b. PassesOn outbox_of bytes b (is_signal m.kind) (destination_of m) v result w in
-      let D : Option (List ℕ) → Type 0 = λ o. PassesOn outbox_of bytes true (is_signal m.kind) o v result w in
+      let K : Bool → Type 0 = λ b. PassesOn outbox_of shares bytes b (is_signal m.kind) (destination_of m) v result w in
+      let D : Option (List ℕ) → Type 0 = λ o. PassesOn outbox_of shares bytes true (is_signal m.kind) o v result w in
       subst B (sym f) (subst K (sym k) (subst D (sym d) h))
 
   -- a message of a client that doesn't watch the bus

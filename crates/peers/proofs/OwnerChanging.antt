@@ -23,13 +23,12 @@ use Rattle.unique_name.specs.UniqueNames.{unique_name}
 use Rattle.peers.specs.declared.error.AnswerError.{AnswerError}
 use Rattle.peers.specs.declared.request.Request.{Request}
 use Rattle.peers.specs.Answers.{IsPutAt}
-use Rattle.peers.specs.Announcements.{IsTold, IsSignalled, HasTold, HasSignalled, TellsOwner, Announces, AnnouncesAny, told_asked, change_asked}
+use Rattle.peers.specs.Announcements.{IsTold, IsSignalled, HasTold, TellsOwner, Announces, AnnouncesAny, told_asked, change_asked}
 use Rattle.peers.specs.Holdings.{HoldingsState}
 use Rattle.peers.specs.NameRows.{ChangesName, TellsNamed}
 use Rattle.peers.specs.OwnerChanges.{IsChangeOf, ChangesAhead, ChangesOwner}
 use Rattle.peers.specs.Passing.{HasSeenMore, with_pass}
 use Rattle.peers.specs.PeerState.{PeerState}
-use Rattle.peers.specs.Rows.{with_holdings}
 
 module _ {M : Type 0} where
   -- what the bus puts by a pass leaves it its connection

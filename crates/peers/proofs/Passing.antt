@@ -1,18 +1,15 @@
 -- What a peer passes on.
 use Rattle.std.proofs.Common.{◌≡◌, ℕ, List, Result, Ok, Err, inr, ap, subst, ◌∙◌}
-use Rattle.std.specs.Prelude.{IfErr, MatchResult}
+use Rattle.std.specs.Prelude.{IfErr}
 use Rattle.outbox.specs.Seated.{OutboxId}
 use Rattle.router.specs.Standing.TheVariants as standings
-use Rattle.router.specs.BusError.{BusError}
 use Rattle.router.specs.Source.TheVariants.{Own}
 use Rattle.router.specs.Passes.{PassState}
-use Rattle.router.specs.Sent.{Sent}
-use Rattle.router.specs.Unicasts.{Unicasts, IsUnsent}
 use Rattle.unique_name.specs.UniqueNames.{unique_name}
 use Rattle.peers.specs.declared.error.AnswerError.{AnswerError}
 use Rattle.peers.specs.declared.error.AnswerError.TheVariants.{NoMemory}
 use Rattle.peers.specs.Broadcasts.{Broadcasts}
-use Rattle.peers.specs.Passing.{HasSeenMore, IsStamped, IsOverLimit, HasBroadcast, SendsAtOnce, SendsStamped, Concludes, with_pass}
+use Rattle.peers.specs.Passing.{HasSeenMore, IsStamped, IsOverLimit, HasBroadcast, with_pass}
 use Rattle.peers.specs.PeerState.{PeerState, name_of}
 
 -- stamped with the name of a number

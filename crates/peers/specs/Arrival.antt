@@ -1,5 +1,5 @@
 -- How a client joins the bus, and what Hello is answered (D-Bus Specification, "Message Bus Messages": Hello).
-use Rattle.std.specs.Prelude.{◌≡◌, ◌⊎◌, List, Result, Ok, Err}
+use Rattle.std.specs.Prelude.{◌≡◌, ◌⊎◌, true, List, Result, Ok, Err}
 use Rattle.std.specs.Result.{result_and}
 use Rattle.outbox.specs.Seated.{OutboxId}
 use Rattle.bus_messages.specs.declared.error_name.ErrorName.TheVariants.{NoMemory}
@@ -16,17 +16,24 @@ use Rattle.peers.specs.declared.refused.Refused.TheVariants.{Error}
 use Rattle.peers.specs.declared.request.Request.{Request}
 use Rattle.peers.specs.Announcements.{AnnouncesArrival}
 use Rattle.peers.specs.Answers.{IsPutAt}
-use Rattle.peers.specs.PeerState.{PeerState, name_of}
+use Rattle.peers.specs.PeerState.{OwnState, PeerState, name_of, without_turn}
 use Rattle.peers.specs.Queries.{RepliesTextBy}
 use Rattle.peers.specs.Refusals.{refusal_of}
 
+-- the turn of the client's outbox, which was there, was given to the bus
+abbrev pub GivesTurn : OwnState → OwnState → Type 0
+GivesTurn own left = (own.has_turn ≡ true) × (left ≡ without_turn own)
+
 module _ {M : Type 0} where
-  -- The pass is connected: the published history gains just its Connect, for a mailbox of the client's own outbox. Or the bus
-  -- refuses, as where no more may be connected, or memory for the mailbox was refused; then nothing is published.
-  abbrev pub Joins : (M → OutboxId) → OutboxId → PassState M → Publication M → Result (Unit {0}) Refused → PassState M → Publication M → Type 0
-  Joins outbox_of outbox v before (Ok _) w next = (mailbox : M) × (reply : Reply) × (outbox_of mailbox ≡ outbox) × Connects v before mailbox (Ok reply) w next
-  Joins outbox_of outbox v before (Err why) w next =
-      ((why ≡ Error NoMemory) × (w ≡ v) × (next ≡ before)) ⊎ ((mailbox : M) × (error : BusError) × Connects v before mailbox (Err error) w next × (why ≡ refusal_of error))
+  -- The pass is connected: the published history gains just its Connect, for a mailbox of the client's own outbox, whose turn the bus
+  -- is given. Or the bus refuses, as where no more may be connected; or memory for the mailbox was refused, or the turn isn't there
+  -- any more, and nothing is done. Then nothing is published.
+  abbrev pub Joins : (M → OutboxId) → OwnState → PassState M → Publication M → Result (Unit {0}) Refused → OwnState → PassState M → Publication M → Type 0
+  Joins outbox_of own v before (Ok _) left w next =
+      GivesTurn own left × (mailbox : M) × (reply : Reply) × (outbox_of mailbox ≡ own.outbox) × Connects v before mailbox (Ok reply) w next
+  Joins outbox_of own v before (Err why) left w next =
+      ((why ≡ Error NoMemory) × (left ≡ own) × (w ≡ v) × (next ≡ before))
+      ⊎ (GivesTurn own left × (mailbox : M) × (error : BusError) × (outbox_of mailbox ≡ own.outbox) × Connects v before mailbox (Err error) w next × (why ≡ refusal_of error))
 
   -- After this history, whose last command has made its connection, the client is answered its name, and then the name is
   -- announced, all at the place of that command. The result is the first error of these.

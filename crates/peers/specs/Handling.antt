@@ -49,15 +49,15 @@ module _ {M : Type 0} where
       ⊎ ((error : CallError) × IsReadAs m (Err error) × IsRefused request (Error (error_name_of error)) v result w))
 
   -- a message that isn't for the bus, by whether its kind is known, whether it is a signal, and its destination
-  abbrev pub PassesOn : (M → OutboxId) → List ℕ → Bool → Bool → Option (List ℕ) → PeerState M → Result (Unit {0}) AnswerError → PeerState M → Type 0
-  PassesOn outbox_of bytes known true None v result w = HasBroadcast outbox_of bytes v result w
-  PassesOn outbox_of bytes known false None v result w = (result ≡ Ok tt) × (w ≡ v)
-  PassesOn outbox_of bytes true signal (Some to) v result w = HasSent outbox_of bytes to v result w
-  PassesOn outbox_of bytes false signal (Some to) v result w = (result ≡ Ok tt) × (w ≡ v)
+  abbrev pub PassesOn : (M → OutboxId) → Shares → List ℕ → Bool → Bool → Option (List ℕ) → PeerState M → Result (Unit {0}) AnswerError → PeerState M → Type 0
+  PassesOn outbox_of shares bytes known true None v result w = HasBroadcast outbox_of bytes v result w
+  PassesOn outbox_of shares bytes known false None v result w = (result ≡ Ok tt) × (w ≡ v)
+  PassesOn outbox_of shares bytes true signal (Some to) v result w = HasSent outbox_of shares bytes to v result w
+  PassesOn outbox_of shares bytes false signal (Some to) v result w = (result ≡ Ok tt) × (w ≡ v)
 
   abbrev pub HandledAs : (M → OutboxId) → Shares → List ℕ → Message → Bool → PeerState M → Result (Unit {0}) AnswerError → PeerState M → Type 0
   HandledAs outbox_of shares bytes m true v result w = CallsBus outbox_of shares m v result w
-  HandledAs outbox_of shares bytes m false v result w = PassesOn outbox_of bytes (is_known m.kind) (is_signal m.kind) (destination_of m) v result w
+  HandledAs outbox_of shares bytes m false v result w = PassesOn outbox_of shares bytes (is_known m.kind) (is_signal m.kind) (destination_of m) v result w
 
   -- A client that watches the bus may send nothing; its pass is closed.
   abbrev pub HandledOf : (M → OutboxId) → Bool → Shares → List ℕ → PeerState M → Result (Unit {0}) AnswerError → PeerState M → Type 0

@@ -1,5 +1,5 @@
 -- How a change of a name's owner is announced and made (D-Bus Specification, "Message Bus Messages": NameOwnerChanged).
-use Rattle.std.specs.Prelude.{◌≡◌, ◌⊎◌, false, Option, Some, None, IfSome, Result, Ok, Err}
+use Rattle.std.specs.Prelude.{◌≡◌, ◌⊎◌, false, Option, None, IfSome, Result, Ok, Err}
 use Rattle.outbox.specs.Seated.{OutboxId}
 use Rattle.owners.specs.declared.answer.Change.{Change}
 use Rattle.router.specs.BusError.{BusError}

@@ -1,5 +1,5 @@
 -- What a peer passes on for its client (D-Bus Specification, "Message Bus Message Routing").
-use Rattle.std.specs.Prelude.{ℕ, ◌≡◌, ◌⊎◌, Bool, true, false, ◌&&◌, ◌==◌, List, [], Some, Result, Ok, Err, MatchResult, bit_and}
+use Rattle.std.specs.Prelude.{ℕ, ◌≡◌, ◌⊎◌, Bool, true, false, ◌&&◌, ◌||◌, ◌==◌, List, [], Option, Some, None, Result, Ok, Err, MatchResult, bit_and, if◌then◌else◌}
 use mathlib.Core.List.{IsPrefix}
 use Rattle.outbox.specs.Seated.{OutboxId}
 use Rattle.message_view.specs.declared.kind.Kind.{Kind}
@@ -57,6 +57,10 @@ module _ {M : Type 0} where
   abbrev pub with_pass : PeerState M → PassState M → PeerState M
   with_pass v pass = record v { pass = pass }
 
+  -- what is left of a pass that is given back to the bus, which takes one that is closed or was never connected
+  abbrev pub left_to_drop : PassState M → Option (PassState M)
+  left_to_drop v = if v.is_closed || v.connection == 0 then None else Some v
+
   -- the pass has seen more, and did nothing
   abbrev pub HasSeenMore : PassState M → PassState M → Type 0
   HasSeenMore v w = IsPrefix v.seen w.seen × (w ≡ record v { seen = w.seen })
@@ -91,11 +95,14 @@ module _ {M : Type 0} where
   Concludes bytes (Ok put) v result w = (result ≡ Ok tt) × (w ≡ v)
   Concludes bytes (Err error) v result w = GivesUp bytes (refusal_of error) v result w
 
+  -- the stamped message went so to the owner of a name, or nothing was put
+  abbrev pub WentSo : (M → OutboxId) → List ℕ → List ℕ → PassState M → Result Sent BusError → PassState M → Type 0
+  WentSo outbox_of to stamped v went w = MatchResult went (λ sent. Unicasts standings.Apart outbox_of to stamped v sent w) (λ error. IsUnsent outbox_of error v w)
+
   -- a stamped message to the owner of a name, of the bytes that the client sent
   abbrev pub SendsAtOnce : (M → OutboxId) → List ℕ → List ℕ → List ℕ → PeerState M → Result (Unit {0}) AnswerError → PeerState M → Type 0
   SendsAtOnce outbox_of bytes to stamped v result w =
-      (mid : PassState M) × (asked : Result Sent BusError)
-      × MatchResult asked (λ sent. Unicasts standings.Apart outbox_of to stamped v.pass sent mid) (λ error. IsUnsent outbox_of error v.pass mid) × Concludes bytes asked (with_pass v mid) result w
+      (mid : PassState M) × (went : Result Sent BusError) × WentSo outbox_of to stamped v.pass went mid × Concludes bytes went (with_pass v mid) result w
 
   -- the same, maybe after the name was found to have no owner, so that nothing was put
   abbrev pub SendsStamped : (M → OutboxId) → List ℕ → List ℕ → List ℕ → PeerState M → Result (Unit {0}) AnswerError → PeerState M → Type 0

@@ -8,13 +8,18 @@ use Rattle.router.specs.Routes.{pass_written}
 use Rattle.peers.specs.declared.identity.Identity.{Identity}
 use Rattle.peers.specs.Holdings.{HoldingsState}
 
--- the client's outbox; the messages that the bus put to the client itself, in order; whether the outbox is known to be shut; and
--- whether what was put there, or refused, waits to be written out
+-- the client's outbox; whether its turn is still there, for the bus; the messages that the bus put to the client itself, in order;
+-- whether the outbox is known to be shut; and whether what was put there, or refused, waits to be written out
 pub record OwnState : Type 0 where
   pub outbox : OutboxId
+  pub has_turn : Bool
   pub put : List Item
   pub knows_shut : Bool
   pub is_waiting : Bool
+
+-- the outbox's turn was taken
+abbrev pub without_turn : OwnState → OwnState
+without_turn own = record own { has_turn = false }
 
 -- what its pass has seen and done; what the bus knows of the client's own outbox; the serial of the next message that the
 -- bus makes for it; what it is told of the bus; and what it has taken of the bus

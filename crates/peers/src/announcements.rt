@@ -141,7 +141,12 @@ impl<B: BusBrand, M: Mailbox> Peer<B, M> {
         }
     }
 
-    fn tell_lost<W: Wait, R: Wait + Drop>(
+    /// Tells one connection that it has lost a name.
+    ///
+    /// # Errors
+    ///
+    /// As those of `announce`.
+    pub(crate) fn tell_lost<W: Wait, R: Wait + Drop>(
         &mut self,
         context: &Context<'_, B, M, W, R>,
         control: &mut Control<B, M, R>,
@@ -192,7 +197,7 @@ impl<B: BusBrand, M: Mailbox> Peer<B, M> {
         let Ok(bytes) = built_message else {
             return Err(AnswerError::NoMemory);
         };
-        context.bus.show(context.rt, context.alloc, None, &bytes);
+        context.show(None, &bytes);
         match self.pass.send_to(context.rt, context.alloc, Source::Bus, to.as_str(), &bytes) {
             Ok(_) => Ok(()),
             Err(_) => Err(AnswerError::NoMemory),
@@ -216,7 +221,9 @@ impl<B: BusBrand, M: Mailbox> Peer<B, M> {
         let Ok(bytes) = built_message else {
             return Err(AnswerError::NoMemory);
         };
-        context.bus.show(context.rt, context.alloc, None, &bytes);
+        context
+            .bus
+            .show_under(context.rt, context.alloc, control, None, &bytes);
         let sent = control.send_to(
             context.rt,
             context.alloc,
@@ -278,7 +285,9 @@ impl<B: BusBrand, M: Mailbox> Peer<B, M> {
         ensures control { control.new ≡ control.old }
     {
         let view = View::of_message(bytes.as_slice());
-        context.bus.show(context.rt, context.alloc, None, bytes);
+        context
+            .bus
+            .show_under(context.rt, context.alloc, control, None, bytes);
         let routed = control.broadcast(
             context.rt,
             context.alloc,
@@ -314,7 +323,7 @@ impl<B: BusBrand, M: Mailbox> Peer<B, M> {
         ensures same { self.new ≡ with_pass self.old self.new.pass }
     {
         let number = Some(self.pass.connection());
-        context.bus.show(context.rt, context.alloc, number, bytes);
+        context.show(number, bytes);
         let routed = self.pass.broadcast(
             context.rt,
             context.alloc,

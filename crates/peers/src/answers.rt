@@ -214,7 +214,7 @@ impl<B: BusBrand, M: Mailbox> Peer<B, M> {
         ensures put { IsPut (λ put. put ≡ bytes) self.old result self.new }
         ensures slow { SlowIfShut result self.new }
     {
-        context.bus.show(context.rt, context.alloc, None, &bytes);
+        context.show(None, &bytes);
         match self.pass.message(context.alloc, bytes) {
             Ok(message) => self.own.put(context.rt, message),
             Err(_) => Err(AnswerError::NoMemory),
@@ -238,7 +238,9 @@ impl<B: BusBrand, M: Mailbox> Peer<B, M> {
         ensures slow { SlowIfShut result self.new }
         ensures control { control.new ≡ control.old }
     {
-        context.bus.show(context.rt, context.alloc, None, &message);
+        context
+            .bus
+            .show_under(context.rt, context.alloc, control, None, &message);
         let sent = control.send_to(
             context.rt,
             context.alloc,

@@ -19,18 +19,18 @@ use outbox::Item;
 use router::{BusBrand, Control, Mailbox, Pass, RouteLists, Standing};
 use std::sync::Wait;
 
-/// Connects a pass, whose messages go to the client's outbox, under the bus's lock.
+/// Connects a pass, whose messages go to the client's outbox, under the bus's lock. The bus gets the outbox's turn.
 ///
 /// # Errors
 ///
-/// The bus's refusal, and `NoMemory`. Nothing is published then.
+/// The refusal of the bus, and `NoMemory`, also if the turn was taken before. Nothing is published then.
 pub fn join<B: BusBrand, M: Mailbox, R: Wait + Drop>(
     control: &mut Control<B, M, R>,
     pass: &mut Pass<B, M>,
     own: &mut OwnOutbox<M>,
 ) -> Result<(), Refused>
-    ensures joins { Joins M.outbox_of own.old.outbox pass.old control.old result pass.new control.new }
-    ensures own { own.new ≡ own.old }
+    ensures joins { Joins M.outbox_of own.old pass.old control.old result own.new pass.new control.new }
+    ensures outbox { own.new.outbox ≡ own.old.outbox }
 {
     let mailbox = own.share()?;
     let Some(turn) = own.take_turn() else {
@@ -62,7 +62,7 @@ pub fn put_refusal<B: BusBrand, M: Mailbox, W: Wait, R: Wait + Drop>(
     }
     let serial = Serials::new().take();
     let bytes = error_bytes(context.alloc, serial, None, request, name)?;
-    context.bus.show(context.rt, context.alloc, None, &bytes);
+    context.show(None, &bytes);
     match Item::new(context.alloc, bytes, None) {
         Ok(message) => own.put(context.rt, message),
         Err(_) => Err(AnswerError::NoMemory),
@@ -86,6 +86,7 @@ impl<B: BusBrand, M: Mailbox> Peer<B, M> {
     ) -> Result<(), AnswerError>
         ensures registered { Registers M.outbox_of control.old.history request self.old result self.new }
         ensures error { UnlessShut request.wants_answer result self.new }
+        ensures control { control.new ≡ control.old }
     {
         self.pass.hold(context.alloc);
         let answered = self.answer_hello(context, control, request);

@@ -1,25 +1,20 @@
 // Clients that watch all that goes through the bus.
 
-ghost use Rattle.std.specs.Prelude.{◌≡◌, codes, IfErr};
-ghost use Rattle.message_build.specs.Asked.{Asked};
-ghost use Rattle.message_build.specs.Building.{AreAsked};
-ghost use Rattle.bus_messages.specs.Sent.{Builds};
-ghost use Rattle.peers.specs.Announcements.{told_asked};
-ghost use Rattle.peers.specs.Answers.{IsPut, UnlessShut, after_serial};
-ghost use Rattle.peers.specs.Monitoring.{BecomesMonitor, Watches, GoesUnder};
-ghost use Rattle.peers.specs.PeerState.{name_of};
+ghost use Rattle.std.specs.Prelude.{◌≡◌, IfErr};
+ghost use Rattle.peers.specs.Answers.{UnlessShut};
+ghost use Rattle.peers.specs.Monitoring.{BecomesMonitor, Watches, GoesUnder, outcome_of};
 
 use crate::context::Context;
 use crate::error::AnswerError;
-use crate::leaving::Leaving;
+use crate::leaving::{Farewell, Leaving};
 use crate::peer::Peer;
 use crate::refused::Refused;
 use crate::request::Request;
 use crate::sending::stamp_message;
-use bus_messages::{Body, BuildError, Bytes, ErrorName, UniqueName, name_lost};
+use bus_messages::{Body, Bytes, ErrorName};
 use match_rule::Rule;
 use message_view::View;
-use router::{BusBrand, BusError, Mailbox, RouteLists};
+use router::{BusBrand, BusError, Control, Mailbox, RouteLists};
 use std::alloc::Global;
 use std::sync::Wait;
 
@@ -31,41 +26,47 @@ impl<B: BusBrand, M: Mailbox> Peer<B, M> {
         context: &Context<'_, B, M, W, R>,
         view: &View<'_>,
     ) {
-        self.show_from(context, view, Some(self.pass.connection()));
+        if let Some(bytes) = self.stamped_if_watched(context, view) {
+            context.show(Some(self.pass.connection()), &bytes);
+        }
     }
 
-    /// Shows the client's first message, as `show` does, under the lock of the bus. It owns no well-known name yet, so nobody
-    /// has to be asked whose it is.
+    /// Shows the client's first message, as `show` does, by who holds the lock of the bus.
     pub fn show_first<W: Wait, R: Wait + Drop>(
         &self,
         context: &Context<'_, B, M, W, R>,
+        control: &Control<B, M, R>,
         view: &View<'_>,
     ) {
-        self.show_from(context, view, None);
+        if let Some(bytes) = self.stamped_if_watched(context, view) {
+            let number = Some(self.pass.connection());
+            context
+                .bus
+                .show_under(context.rt, context.alloc, control, number, &bytes);
+        }
     }
 
-    // Shows a message of one whose well-known names are those of this connection, or none.
-    fn show_from<W: Wait, R: Wait + Drop>(
+    // The message as it is passed on, if anybody watches.
+    fn stamped_if_watched<W: Wait, R: Wait + Drop>(
         &self,
         context: &Context<'_, B, M, W, R>,
         view: &View<'_>,
-        owner: Option<u64>,
-    ) {
+    ) -> Option<Bytes> {
         if context.bus.monitors().is_empty() {
-            return;
+            return None;
         }
-        if let Ok(bytes) = stamp_message(context.alloc, view, &self.name) {
-            context.bus.show(context.rt, context.alloc, owner, &bytes);
-        }
+        stamp_message(context.alloc, view, &self.name).ok()
     }
 
     /// Has the client watch all that goes through the bus, as far as one of these rules holds of it, or everything if there are
     /// none (D-Bus Specification, "Message Bus Messages": BecomeMonitor). Its call is answered; then it leaves the bus with all
-    /// its names, of which its unique one is the last that it is told to have lost, and what it sends later ends its session.
+    /// its names. It is told of each that it is lost, of its unique one last, before that is announced. What it sends later ends its
+    /// session.
     ///
     /// # Errors
     ///
-    /// As those of `answer`, and `NoMemory` if it couldn't leave the bus, or watch it.
+    /// As those of `answer`, and `NoMemory` if it couldn't leave the bus, or watch it, or if memory was refused to a message that
+    /// tells of its leaving.
     pub(crate) fn become_monitor<W: Wait, R: Wait + Drop>(
         &mut self,
         context: &Context<'_, B, M, W, R>,
@@ -130,7 +131,8 @@ impl<B: BusBrand, M: Mailbox> Peer<B, M> {
         }
     }
 
-    // Leaves the bus, and tells the client that it has lost its unique name.
+    // Leaves the bus. Its client stays, and is told so. That is written out once it watches, so that whoever has read the answer is
+    // shown all that comes then.
     fn go_under<W: Wait, R: Wait + Drop>(
         &mut self,
         context: &Context<'_, B, M, W, R>,
@@ -139,41 +141,21 @@ impl<B: BusBrand, M: Mailbox> Peer<B, M> {
         ensures gone { GoesUnder M.outbox_of self.old result self.new }
         ensures error { IfErr result (λ error. error ≡ AnswerError.NoMemory) }
     {
-        match self.leave(context, lists) {
-            Leaving::Done => {
-                // One whose outbox has no room for this is Slow at its next step.
-                let _ = self.lose_own_name(context);
-                Ok(())
-            }
-            Leaving::Ended | Leaving::Refused => Err(AnswerError::NoMemory),
-        }
+        let (leaving, told) = self.depart(context, lists, Farewell::Told);
+        outcome_of(leaving, told)
     }
+}
 
-    // Tells the client that it has lost its unique name.
-    fn lose_own_name<W: Wait, R: Wait + Drop>(
-        &mut self,
-        context: &Context<'_, B, M, W, R>,
-    ) -> Result<(), AnswerError>
-        ensures { IsPut (AreAsked (told_asked self.old.serial (codes "NameLost") (name_of self.old) self.old.pass.connection)) (after_serial self.old) result self.new }
-    {
-        let serial = self.serials.take();
-        let name = UniqueName::new(self.pass.connection());
-        let built_message = name_lost(context.alloc, serial, name.as_str(), name.as_str());
-        self.tell_client(context, built_message)
-    }
-
-    // Puts a message of the bus to the client itself.
-    fn tell_client<W: Wait, R: Wait + Drop>(
-        &mut self,
-        context: &Context<'_, B, M, W, R>,
-        built_message: Result<Bytes, BuildError>,
-    ) -> Result<(), AnswerError>
-        ensures { (asked : Asked) → Builds asked built_message → IsPut (AreAsked asked) self.old result self.new }
-    {
-        match built_message {
-            Ok(bytes) => self.put(context, bytes),
+// What becomes of a call to leave the bus, by what became of the messages that tell of it.
+fn outcome_of(leaving: Leaving, told: Result<(), AnswerError>) -> Result<(), AnswerError>
+    ensures { result ≡ outcome_of leaving told }
+{
+    match leaving {
+        Leaving::Done => match told {
+            Ok(_) => Ok(()),
             Err(_) => Err(AnswerError::NoMemory),
-        }
+        },
+        Leaving::Ended | Leaving::Refused => Err(AnswerError::NoMemory),
     }
 }
 

@@ -1,7 +1,8 @@
 // The outbox of a client, as its own session puts messages there.
 
-ghost use Rattle.std.specs.Prelude.{◌≡◌, [], false, true, None, IfErr, IfOk, IfSome, IsTrue, MatchBool, MatchResult};
+ghost use Rattle.std.specs.Prelude.{◌≡◌, [], false, true, None, IfErr, IfOk, IfSome, IsTrue, MatchBool, MatchResult, is_some};
 ghost use Rattle.peers.specs.Answers.{IsShutIf, after_own_put, after_refusal};
+ghost use Rattle.peers.specs.PeerState.{without_turn};
 
 use crate::error::AnswerError;
 use outbox::{Item, Seat, Tally, Turn};
@@ -11,8 +12,8 @@ use std::marker::Model;
 use std::sync::Wait;
 
 /// A client's own mailbox, and a seat at its outbox. All that is written to the client goes through this outbox.
-/// Contracts see the outbox, what was put by this seat, in order, whether the outbox is known to be shut, and whether
-/// anything waits there to be written out.
+/// Contracts see the outbox, whether its turn is still there, what was put by this seat, in order, whether the outbox is known
+/// to be shut, and whether anything waits there to be written out.
 #[derive(Drop)]
 pub struct OwnOutbox<M: Mailbox> {
     mailbox: M,
@@ -24,12 +25,12 @@ pub struct OwnOutbox<M: Mailbox> {
 }
 
 impl<M: Mailbox> Model for OwnOutbox<M> {
-    ghost use Rattle.std.specs.Prelude.{◌≡◌, IfSome};
+    ghost use Rattle.std.specs.Prelude.{◌≡◌, IfSome, is_some};
     ghost use Rattle.peers.specs.PeerState.{OwnState};
 
     ghost Value = { OwnState };
 
-    ghost view = { λ o. record { outbox = o.seat.outbox; put = o.seat.view.put; knows_shut = o.seat.knows_shut; is_waiting = o.is_waiting } };
+    ghost view = { λ o. record { outbox = o.seat.outbox; has_turn = is_some o.turn; put = o.seat.view.put; knows_shut = o.seat.knows_shut; is_waiting = o.is_waiting } };
 
     ghost invariant = { λ o. (o.seat.outbox ≡ M.outbox_of o.mailbox) × IfSome o.turn (λ t. (t.queue ≡ (M.outbox_of o.mailbox).queue) × (t.last ≡ 0)) };
 }
@@ -39,6 +40,7 @@ impl<M: Mailbox> OwnOutbox<M> {
     pub fn new(mailbox: M, turn: Turn) -> OwnOutbox<M>
         requires { (turn.queue ≡ (M.outbox_of mailbox).queue) × (turn.last ≡ 0) }
         ensures new { (result.put ≡ []) × (result.is_waiting ≡ false) }
+        ensures turn { result.has_turn ≡ true }
         ensures outbox { result.outbox ≡ M.outbox_of mailbox }
     {
         let seat = mailbox.outbox().seat();
@@ -60,7 +62,8 @@ impl<M: Mailbox> OwnOutbox<M> {
     /// The outbox's turn, for the bus. It is there until it was taken.
     pub(crate) fn take_turn(&mut self) -> Option<Turn>
         ensures turn { IfSome result (λ t. (t.queue ≡ self.old.outbox.queue) × (t.last ≡ 0)) }
-        ensures same { self.new ≡ self.old }
+        ensures there { is_some result ≡ self.old.has_turn }
+        ensures taken { self.new ≡ without_turn self.old }
     {
         self.turn.take()
     }

@@ -1,14 +1,13 @@
 // What a client sends to others.
 
-ghost use Rattle.std.specs.Prelude.{◌≡◌, IfOk, MatchResult};
-ghost use Rattle.router.specs.Unicasts.{Unicasts, IsUnsent};
+ghost use Rattle.std.specs.Prelude.{◌≡◌, IfOk};
 ghost use Rattle.message_view.specs.Message.{Message};
 ghost use Rattle.message_view.specs.Valid.{Valid};
 ghost use Rattle.message_build.specs.Stamped.{Stamps};
 ghost use Rattle.unique_name.specs.UniqueNames.{unique_name};
 ghost use Rattle.peers.specs.Answers.{SlowIfShut};
 ghost use Rattle.peers.specs.Calling.{HasSent, GoesOn};
-ghost use Rattle.peers.specs.Passing.{HasBroadcast, SendsStamped, SendsAtOnce, Concludes, GivesUp, with_pass};
+ghost use Rattle.peers.specs.Passing.{HasBroadcast, SendsStamped, SendsAtOnce, WentSo, Concludes, GivesUp, with_pass};
 ghost use Rattle.peers.specs.PeerState.{name_of};
 
 use crate::context::Context;
@@ -20,7 +19,7 @@ use bus_messages::{Bytes, ErrorName, Exceeded, UniqueName};
 use message_build::{StampError, stamp};
 use message_view::{Kind, View};
 use outbox::Counts;
-use router::{BusBrand, BusError, Mailbox, RouteLists, Sent, Source, Standing};
+use router::{BusBrand, BusError, Mailbox, RouteLists, Sent, Source};
 use std::alloc::Global;
 use std::sync::Wait;
 
@@ -63,7 +62,7 @@ impl<B: BusBrand, M: Mailbox> Peer<B, M> {
         view: &View<'_>,
         to: &str,
     ) -> Result<(), AnswerError>
-        ensures outcome { HasSent M.outbox_of view.now to.now self.old result self.new }
+        ensures outcome { HasSent M.outbox_of context.now.shares view.now to.now self.old result self.new }
         ensures slow { SlowIfShut result self.new }
     {
         match stamp_message(context.alloc, view, &self.name) {
@@ -84,7 +83,7 @@ impl<B: BusBrand, M: Mailbox> Peer<B, M> {
         to: &str,
         bytes: &Bytes,
     ) -> Result<(), AnswerError>
-        ensures outcome { GoesOn M.outbox_of view.now to.now bytes.now self.old result self.new }
+        ensures outcome { GoesOn M.outbox_of context.now.shares view.now to.now bytes.now self.old result self.new }
         ensures slow { SlowIfShut result self.new }
     {
         self.own.tally().add(Counts {
@@ -92,7 +91,7 @@ impl<B: BusBrand, M: Mailbox> Peer<B, M> {
             ..Counts::none()
         });
         let number = Some(self.pass.connection());
-        context.bus.show(context.rt, context.alloc, number, bytes);
+        context.show(number, bytes);
         match view.kind() {
             Kind::MethodCall => self.send_call(context, view, to, bytes),
             Kind::MethodReturn => self.send_reply(context, view, to, bytes),
@@ -135,7 +134,8 @@ impl<B: BusBrand, M: Mailbox> Peer<B, M> {
         ensures outcome { SendsAtOnce M.outbox_of view.now to.now bytes.now self.old result self.new }
         ensures slow { SlowIfShut result self.new }
     {
-        let _control = context.bus.control(context.rt);
+        let control = context.bus.control(context.rt);
+        let context = &context.under(&control);
         let sent = self.send_by_name(context, to, bytes);
         self.conclude(context, view, sent)
     }
@@ -147,7 +147,7 @@ impl<B: BusBrand, M: Mailbox> Peer<B, M> {
         to: &str,
         bytes: &Bytes,
     ) -> Result<Sent, BusError>
-        ensures sent { MatchResult result (λ sent. Unicasts Standing.Apart M.outbox_of to.now bytes.now self.old.pass sent self.new.pass) (λ error. IsUnsent M.outbox_of error self.old.pass self.new.pass) }
+        ensures sent { WentSo M.outbox_of to.now bytes.now self.old.pass result self.new.pass }
         ensures same { self.new ≡ with_pass self.old self.new.pass }
     {
         self.pass

@@ -1,9 +1,10 @@
 // Whom a call of the bus is about.
 
-ghost use Rattle.std.specs.Prelude.{◌≡◌, IfSome};
+ghost use Rattle.std.specs.Prelude.{◌≡◌, ◌≢◌, IfSome};
 ghost use Rattle.message_view.specs.Message.{Message};
 ghost use Rattle.message_view.specs.Valid.{Valid};
 ghost use Rattle.router.specs.History.{after};
+ghost use Rattle.router.specs.NameOwners.{IsOwner};
 ghost use Rattle.peers.specs.Passing.{HasSeenMore, with_pass};
 ghost use Rattle.peers.specs.Subjects.{IsSubject};
 
@@ -24,8 +25,16 @@ impl<B: BusBrand, M: Mailbox> Peer<B, M> {
         if !is_for_bus(view) {
             return None;
         }
+        self.other_owner_of(arg0_of(view)?)
+    }
+
+    /// The connection that owns a name, if it is another than the client's own. `None` if the bus doesn't tell.
+    pub fn other_owner_of(&mut self, name: &str) -> Option<u64>
+        ensures owner { IfSome result (λ number. (number ≢ self.old.pass.connection) × IsOwner (after self.new.pass.seen) name.now number) }
+        ensures later { HasSeenMore self.old.pass self.new.pass }
+        ensures same { self.new ≡ with_pass self.old self.new.pass }
+    {
         let caller = self.connection();
-        let name = arg0_of(view)?;
         match self.pass.owner_of(name) {
             Ok(Some(number)) if number != caller => Some(number),
             _ => None,

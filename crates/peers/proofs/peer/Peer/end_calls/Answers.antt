@@ -1,12 +1,16 @@
-use Rattle.peers.proofs.Calling.{one_more}
+use Rattle.std.proofs.Common.{◌≡◌, ◌∙◌, ap, arith}
+use Rattle.router.specs.OpenCalls.{shard_count}
+use Rattle.peers.specs.PeerState.{PeerState}
+use Rattle.peers.proofs.Calling.{all_ended, ends_more}
 use Rattle.peers.proofs.peer.Peer.end_calls.Goals as goal
 
-pub returns-in_default : goal.returns-in_default
-returns-in_default g c = (c.loop-count.count, c.loop-count.invariant)
+pub loop-shard-preserved : goal.loop-shard-preserved
+loop-shard-preserved g c =
+    let told = c.end_calls_to-told in
+    ends_more g.M.Mailbox.outbox_of c.connection-number.result c.loop-shard.shard _ _ c.args.self.now _ told.new.self c.loop-shard.answered told.result c.and-answered.result c.loop-shard.invariant told.ensures c.and-answered.ensures
 
 pub returns : goal.returns
-returns g c = (c.loop-count.count, c.loop-count.invariant)
-
-pub loop-count-preserved : goal.loop-count-preserved
-loop-count-preserved g c =
-    one_more g.M.Mailbox.outbox_of c.loop-count.count c.in-Some.call.caller c.in-Some.call.serial c.args.self.now _ c.answer_caller.new.self c.loop-count.invariant c.answer_caller.ensures
+returns g c =
+    let number : c.connection-number.result ≡ c.args.self.now.pass.connection = c.connection-number.ensures ∙ ap (λ (v : PeerState g.row.M.Denot). v.pass.connection) c.self.view_is in
+    let all : c.loop-shard.shard ≡ shard_count = omega (arith, c.loop-shard-test.false, c.loop-shard.auto.shard-end) in
+    all_ended g.M.Mailbox.outbox_of c.connection-number.result c.loop-shard.shard c.args.self.now c.loop-shard.self c.loop-shard.answered number all c.loop-shard.invariant

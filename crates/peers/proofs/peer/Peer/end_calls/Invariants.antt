@@ -1,5 +1,5 @@
-use Rattle.peers.specs.Calling.{AnswersMany}
+use Rattle.peers.specs.Calling.{EndsCallsOf}
 use Rattle.peers.proofs.peer.Peer.end_calls.Given as goal
 
-abbrev pub invariant-loop-count : goal.invariant-loop-count
-invariant-loop-count g l = AnswersMany g.M.Mailbox.outbox_of l.count l.fn.self l.self
+abbrev pub invariant-loop-shard : goal.invariant-loop-shard
+invariant-loop-shard g l = EndsCallsOf g.M.Mailbox.outbox_of l.number l.shard l.fn.self l.answered l.self

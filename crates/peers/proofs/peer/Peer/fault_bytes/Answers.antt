@@ -1,6 +1,4 @@
-use Rattle.std.proofs.Common.{◌≡◌, ℕ, List, Result, Ok, Err, ap, subst, ◌∙◌, ⊎_elim, inl, inr}
-use Rattle.std.specs.Prelude.{IfOk}
-use Rattle.bus_messages.specs.declared.error_name.ErrorName.TheVariants.{NoMemory}
+use Rattle.std.proofs.Common.{◌≡◌, ap, ◌∙◌}
 use Rattle.unique_name.specs.UniqueNames.{unique_name}
 use Rattle.peers.specs.PeerState.{PeerState, name_of}
 use Rattle.peers.proofs.Putting.{faults_are}

@@ -1,6 +1,5 @@
 use Rattle.std.proofs.Common.{◌≡◌, ◌∙◌, ℕ, List, inr, refl, sym, subst}
 use Rattle.router.specs.NameCall.TheVariants as calls
-use Rattle.router.specs.Publication.{Publication}
 use Rattle.peers.specs.HeldLists.{holdings_of}
 use Rattle.peers.specs.Holdings.{after_release}
 use Rattle.peers.specs.NameRows.{ChangesName}
