@@ -2,3 +2,4 @@ pub mod Runs
 pub mod Stepping
 pub mod Endings
 mod Arriving
+mod Members

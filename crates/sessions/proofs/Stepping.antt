@@ -1,5 +1,5 @@
 -- What a step does to what clauses see of a session.
-use Rattle.std.proofs.Common.{◌≡◌, ℕ, Bool, List, [], ◌∷◌, ◌++◌, length, take, drop, Option, Some, None, Ok, refl, sym, ap, subst, ◌∙◌}
+use Rattle.std.proofs.Common.{◌≡◌, ℕ, Bool, List, [], ◌∷◌, ◌++◌, length, take, drop, Option, Some, None, Result, Ok, Err, inr, refl, sym, ap, subst, ◌∙◌}
 use Rattle.auth.specs.Talk.{Standing, taken_of}
 use Rattle.std.proofs.lemmas.List.{take-append-drop}
 use Rattle.outbox.specs.Seated.{OutboxId}
@@ -10,6 +10,7 @@ use Rattle.sessions.specs.SessionState.{SessionState, outbox_after}
 use Rattle.sessions.specs.Steps.{IsFoundShut, IsShutIf, Takes, TakesLine, TakesMessage, Hears}
 use Rattle.sessions.specs.declared.error.SessionError.{SessionError}
 use Rattle.sessions.specs.declared.error.SessionError.TheVariants.{Slow}
+use Rattle.sessions.specs.declared.step.Step.{Step}
 use Rattle.sessions.specs.declared.step.Step.TheVariants.{Done}
 
 -- what comes after a message, once that is taken away
@@ -39,3 +40,13 @@ module _ {M : Type 0} where
       let P : SessionState M → Type 0 = λ s. TakesMessage outbox_of shares s (Ok Done) (w kept) in
       let left : now ≡ rest = n ∙ ap (drop (length message)) first ∙ after_message message rest in
       subst P is (message, (valid, first ∙ ap (λ (x : List ℕ). message ++ x) (sym left), takes, ap w k))
+
+  pub message_refused : (outbox_of : M → OutboxId) (shares : Shares) (standing : Standing) (begun : Bool) (fault : Option SessionError) (message rest unread : List ℕ) (outbox kept : Option OutboxId) (peer later : Option (PeerState M)) (error : SessionError) (result : Result Step SessionError) (v : SessionState M)
+      → record { standing = standing; has_begun = begun; unread = unread; outbox = outbox; peer = peer; fault = fault } ≡ v → result ≡ Err error → IsMessage message → unread ≡ message ++ rest
+      → Takes outbox_of shares message outbox peer (Err error) later → kept ≡ outbox_after later outbox
+      → TakesMessage outbox_of shares v result (record { standing = standing; has_begun = begun; unread = unread; outbox = kept; peer = later; fault = fault })
+  message_refused outbox_of shares standing begun fault message rest unread outbox kept peer later error result v is ends valid first takes k =
+      let w : Option OutboxId → SessionState M = λ o. record { standing = standing; has_begun = begun; unread = unread; outbox = o; peer = later; fault = fault } in
+      let P : SessionState M → Type 0 = λ s. TakesMessage outbox_of shares s (Err error) (w kept) in
+      let Q : Result Step SessionError → Type 0 = λ r. TakesMessage outbox_of shares v r (w kept) in
+      subst Q (sym ends) (subst P is (inr (message, rest, valid, first, takes, ap w k)))

@@ -6,3 +6,4 @@ pub mod Steps
 pub mod Subjects
 pub mod Runs
 pub mod Ends
+pub mod Openings

@@ -3,13 +3,10 @@ use Rattle.std.specs.Prelude.{Bool, false, ℕ, List, [], Option, Some, None}
 use Rattle.auth.specs.Talk.{Standing, opening_with}
 use Rattle.auth.specs.declared.terms.Terms.{Terms}
 use Rattle.outbox.specs.Seated.{OutboxId}
-use Rattle.peers.specs.PeerState.{OwnState, PeerState, peer_written}
+use Rattle.peers.specs.PeerState.{PeerState, peer_written}
+use Rattle.sessions.specs.declared.client.Client.{Client}
+use Rattle.sessions.specs.declared.client.Client.TheVariants.{Newcomer, Peer}
 use Rattle.sessions.specs.declared.error.SessionError.{SessionError}
-
--- the outbox that a client has before Hello, which its peer has from then on; and its peer, once Hello made it
-pub record ClientState (M : Type 0) : Type 0 where
-  pub outbox : Option OutboxId
-  pub peer : Option (PeerState M)
 
 -- where the talk stands, and whether it is over; the bytes that were fed and not handled; the client's outbox before Hello, and
 -- its peer, once Hello made it; and why the session ends
@@ -26,9 +23,14 @@ abbrev pub new_session : {M : Type 0} → OutboxId → Terms → SessionState M
 new_session outbox terms = record { standing = opening_with terms; has_begun = false; unread = []; outbox = Some outbox; peer = None; fault = None }
 
 -- the outbox that a client has without a peer
-abbrev pub own_outbox : Option OwnState → Option OutboxId
-own_outbox (Some own) = Some own.outbox
-own_outbox None = None
+abbrev pub own_outbox : {B M : Type 0} → Client B M → Option OutboxId
+own_outbox (Newcomer own) = Some own.outbox
+own_outbox _ = None
+
+-- the peer of a client that has said Hello
+abbrev pub peer_of : {B M : Type 0} → Client B M → Option (PeerState M)
+peer_of (Peer v) = Some v
+peer_of _ = None
 
 -- a peer has the outbox that its client had before
 abbrev pub outbox_after : {M : Type 0} → Option (PeerState M) → Option OutboxId → Option OutboxId

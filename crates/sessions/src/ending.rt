@@ -3,6 +3,8 @@
 ghost use Rattle.std.specs.Prelude.{◌≡◌};
 ghost use Rattle.sessions.specs.Ends.{Ends};
 
+use crate::client::outcome_of;
+use crate::error::SessionError;
 use crossbeam_utils::rule::Protocol;
 use peers::{
     Bus, BusBrand, Command, Context, Leaving, Mailbox, Peer, Published, RouteLists, Shown,
@@ -48,14 +50,14 @@ impl<B: BusBrand, M: Mailbox> Rest<B, M> {
         self.peer.reclaim()
     }
 
-    /// Goes on with the session's end. Answers what is left of it if memory was refused again.
+    /// Goes on with the session's end. Answers what became of it, as `end` of the session does.
     pub fn retry<W: Wait, R: Wait + Drop>(
         self,
         rt: &W,
         alloc: Global,
         bus: &Bus<B, M, R>,
-    ) -> Option<Rest<B, M>>
-        ensures { Ends M.outbox_of self result }
+    ) -> (Result<(), SessionError>, Option<Rest<B, M>>)
+        ensures { Ends M.outbox_of self result.0 result.1 }
     {
         let Rest { peer } = self;
         let mut lists = RouteLists::new();
@@ -63,19 +65,21 @@ impl<B: BusBrand, M: Mailbox> Rest<B, M> {
     }
 }
 
-/// Takes a peer off the bus. Answers what is left of it if memory was refused.
+/// Takes a peer off the bus. Answers whether all were told of it, and what is left of it if memory was refused.
 pub(crate) fn end<B: BusBrand, M: Mailbox, W: Wait, R: Wait + Drop>(
     mut peer: Peer<B, M>,
     context: &Context<'_, B, M, W, R>,
     lists: &mut RouteLists,
-) -> Option<Rest<B, M>>
-    ensures { Ends M.outbox_of peer result }
+) -> (Result<(), SessionError>, Option<Rest<B, M>>)
+    ensures { Ends M.outbox_of peer result.0 result.1 }
 {
-    match peer.leave(context, lists) {
-        Leaving::Refused => Some(Rest { peer }),
+    let (leaving, told) = peer.leave(context, lists);
+    let outcome = outcome_of(told);
+    match leaving {
+        Leaving::Refused => (outcome, Some(Rest { peer })),
         Leaving::Done | Leaving::Ended => {
-            context.give_back(peer.into_pass());
-            None
+            let _ = context.give_back(peer.into_pass());
+            (outcome, None)
         }
     }
 }

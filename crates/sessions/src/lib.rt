@@ -8,8 +8,10 @@
 mod client;
 mod ending;
 mod error;
+mod first_text;
 mod greeting;
 mod laws;
+mod opening;
 mod serving;
 mod session;
 mod step;
@@ -20,6 +22,7 @@ pub use auth::{Admission, CookieChallenge, External};
 pub use ending::Rest;
 pub use error::SessionError;
 pub use laws::handled_in_order;
+pub use opening::Opening;
 pub use serving::serve_one;
 pub use session::Session;
 pub use step::Step;

@@ -20,7 +20,7 @@ const READ_LEN: usize = 4096;
 ///
 /// # Errors
 ///
-/// Those of a session. A fault of the writer ends the session at once before BEGIN; after it the session goes on
+/// Those of a session and of its end. A fault of the writer ends the session at once before BEGIN; after it the session goes on
 /// reading to the end of its input, and then answers `Write`, whatever ended it.
 pub fn serve_one<B: BusBrand, W: Wait, R: Wait + Drop, I: Read + Drop, O: Write + Drop>(
     rt: &W,
@@ -41,7 +41,8 @@ pub fn serve_one<B: BusBrand, W: Wait, R: Wait + Drop, I: Read + Drop, O: Write 
         outcome
     };
     let mut lists = RouteLists::new();
-    (outcome, session.end(rt, alloc, bus, &mut lists))
+    let (told, rest) = session.end(rt, alloc, bus, &mut lists);
+    (outcome.and(told), rest)
 }
 
 /// A session with an outbox of its own, and what writes that out.

@@ -1,15 +1,18 @@
 // A client's session.
 
-ghost use Rattle.std.specs.Prelude.{◌≡◌, [], None, IfErr, IfOk, IfSome, is_some, length, true};
+ghost use Rattle.std.specs.Prelude.{◌≡◌, [], None, IfErr, IfNone, IfOk, IfSome, is_some, length, true};
 ghost use Rattle.auth.specs.Admissions.{any_admission};
+ghost use Rattle.sessions.specs.Openings.{HasNoOpening, IsNextOpening};
 ghost use Rattle.sessions.specs.Steps.{Feeds, IsShutIf, Steps, TakesNext, TakesMessage, TakesLine};
 ghost use Rattle.sessions.specs.Ends.{EndsAny};
 ghost use Rattle.sessions.specs.Subjects.{HasLooked, IsNextSubject};
 ghost use Rattle.sessions.specs.SessionState.{connection_of, new_session, client_written};
 
-use crate::client::Client;
+use crate::client::{Client, Newcomer};
 use crate::ending::{Rest, end};
 use crate::error::SessionError;
+use crate::first_text::first_text;
+use crate::opening::Opening;
 use crate::step::Step;
 use crate::talk::Talk;
 use auth::Admission;
@@ -18,8 +21,8 @@ use frames::Frames;
 use message_view::{MsgError, View};
 use outbox::Turn;
 use peers::{
-    AllInstructions, Bus, BusBrand, Command, Context, Identity, Mailbox, Published, RouteLists,
-    Shares, Shown, StateReader,
+    AllInstructions, Bus, BusBrand, Command, Context, Identity, Mailbox, OwnOutbox, Published,
+    RouteLists, Shares, Shown, StateReader,
 };
 use std::alloc::Global;
 use std::collections::LinkedList;
@@ -49,11 +52,11 @@ where
     Published: Protocol<Shown<B, M>, LinkedList<Command<M>>>,
 {
     ghost use Rattle.std.specs.Prelude.{◌≡◌, None};
-    ghost use Rattle.sessions.specs.SessionState.{SessionState};
+    ghost use Rattle.sessions.specs.SessionState.{SessionState, own_outbox, peer_of};
 
     ghost Value = { SessionState M };
 
-    ghost view = { λ s. record { standing = s.talk.auth; has_begun = s.talk.has_begun; unread = s.input.unread; outbox = s.client.outbox; peer = s.client.peer; fault = s.fault } };
+    ghost view = { λ s. record { standing = s.talk.auth; has_begun = s.talk.has_begun; unread = s.input.unread; outbox = own_outbox s.client; peer = peer_of s.client; fault = s.fault } };
 
     // The faults of messages are kept in the session's own fault, and not in its frames.
     ghost invariant = { λ s. s.input.fault ≡ None };
@@ -88,7 +91,12 @@ impl<B: BusBrand, M: Mailbox> Session<B, M> {
         Session {
             talk: Talk::admitting(identity.guid, admission),
             input: Frames::new(alloc),
-            client: Client::new(mailbox, turn, identity),
+            client: Client::Newcomer(Newcomer {
+                own: OwnOutbox::new(mailbox, turn),
+                identity,
+                all: None,
+                reader: None,
+            }),
             fault: None,
         }
     }
@@ -98,7 +106,9 @@ impl<B: BusBrand, M: Mailbox> Session<B, M> {
     pub fn share_instructions(&mut self, all: Arc<AllInstructions>)
         ensures { self.new ≡ self.old }
     {
-        self.client.share_instructions(all);
+        if let Client::Newcomer(newcomer) = &mut self.client {
+            newcomer.all = Some(all);
+        }
     }
 
     /// Reads the bus's state by this reader until it is reclaimed, so that a thread may lend its one reader to each session
@@ -107,14 +117,22 @@ impl<B: BusBrand, M: Mailbox> Session<B, M> {
     pub fn lend(&mut self, reader: StateReader<B, M>)
         ensures { self.new ≡ self.old }
     {
-        self.client.lend(reader);
+        match &mut self.client {
+            Client::Newcomer(newcomer) => newcomer.reader = Some(reader),
+            Client::Peer(peer) => peer.lend(reader),
+            Client::Arriving => {}
+        }
     }
 
     /// Gives up the reader.
     pub fn reclaim(&mut self) -> Option<StateReader<B, M>>
         ensures { self.new ≡ self.old }
     {
-        self.client.reclaim()
+        match &mut self.client {
+            Client::Newcomer(newcomer) => newcomer.reader.take(),
+            Client::Peer(peer) => peer.reclaim(),
+            Client::Arriving => None,
+        }
     }
 
     /// Whether the talk is over and messages are read.
@@ -128,14 +146,17 @@ impl<B: BusBrand, M: Mailbox> Session<B, M> {
     pub fn is_connected(&self) -> bool
         ensures { result ≡ is_some self.now.peer }
     {
-        self.client.is_connected()
+        matches!(self.client, Client::Peer(_))
     }
 
     /// The number of its client's connection, by which its unique name is made, once Hello was accepted.
     pub fn number(&self) -> Option<u64>
         ensures { result ≡ connection_of self.now.peer }
     {
-        self.client.number()
+        match &self.client {
+            Client::Peer(peer) => Some(peer.connection()),
+            Client::Newcomer(_) | Client::Arriving => None,
+        }
     }
 
     /// How many bytes wait to be handled. Once a step waits, they are of a line or a message that isn't whole.
@@ -143,6 +164,17 @@ impl<B: BusBrand, M: Mailbox> Session<B, M> {
         ensures { result ≡ length self.now.unread }
     {
         self.input.unread().len()
+    }
+
+    /// The connection that the next message may ask the bus about: what `next_subject` tells, if it tells one. It takes a tenth
+    /// of the time, since the message isn't read; so it may be told of a message that is none, or isn't for the bus.
+    pub fn possible_subject(&mut self) -> Option<u64>
+        ensures looked { HasLooked self.old self.new }
+    {
+        if !self.is_connected() || self.input.unread().get(1).copied() != Some(METHOD_CALL) {
+            return None;
+        }
+        self.client.other_owner_of(first_text(self.input.unread())?)
     }
 
     /// The connection that the next message asks the bus about, by a name that it owns. `None` where no such message is next. A
@@ -153,7 +185,7 @@ impl<B: BusBrand, M: Mailbox> Session<B, M> {
         ensures looked { HasLooked self.old self.new }
         ensures subject { IfSome result (λ number. IsNextSubject self.old.unread self.new.peer number) }
     {
-        if !self.talk.has_begun() || self.input.unread().get(1).copied() != Some(METHOD_CALL) {
+        if !self.is_connected() || self.input.unread().get(1).copied() != Some(METHOD_CALL) {
             return None;
         }
         self.subject_of_call()
@@ -169,6 +201,18 @@ impl<B: BusBrand, M: Mailbox> Session<B, M> {
         match &self.input.front() {
             Ok(Some(view)) => self.client.subject_of(view),
             _ => None,
+        }
+    }
+
+    /// The message that stands in front: the one that has ended the session, once a step has answered why.
+    pub fn opening(&self) -> Option<Opening>
+        ensures message { IfSome result (λ opening. IsNextOpening self.now.unread opening) }
+        ensures none { IfNone result (HasNoOpening self.now.unread) }
+    {
+        match &self.input.front() {
+            Ok(Some(view)) => Some(Opening::of(view)),
+            Ok(None) => None,
+            Err(_) => None,
         }
     }
 
@@ -207,11 +251,11 @@ impl<B: BusBrand, M: Mailbox> Session<B, M> {
     ///
     /// Why the session ends, and from then on always. It is `Slow` only where the client's outbox is known to be shut. What
     /// the session has put may still be written out.
-    pub fn step<W: Wait, R: Wait + Drop>(
+    pub fn step<'a, W: Wait, R: Wait + Drop>(
         &mut self,
-        rt: &W,
+        rt: &'a W,
         alloc: Global,
-        bus: &Bus<B, M, R>,
+        bus: &'a Bus<B, M, R>,
         shares: Shares,
         lists: &mut RouteLists,
     ) -> Result<Step, SessionError>
@@ -229,6 +273,7 @@ impl<B: BusBrand, M: Mailbox> Session<B, M> {
             alloc,
             bus,
             shares,
+            control: None,
         };
         match self.take_next(&context, lists) {
             Ok(step) => Ok(step),
@@ -266,14 +311,16 @@ impl<B: BusBrand, M: Mailbox> Session<B, M> {
         ensures takes { TakesLine self.old result self.new }
         ensures slow { IfErr result (λ error. IsShutIf self.new.peer error) }
     {
-        let Some(own) = &mut self.client.own else {
+        let Client::Newcomer(newcomer) = &mut self.client else {
             return Ok(Step::Waits);
         };
         if self.input.is_empty() {
             return Ok(Step::Waits);
         }
         let bytes = self.input.unread();
-        let taken = self.talk.take_line(context.rt, context.alloc, own, bytes)?;
+        let taken = self
+            .talk
+            .take_line(context.rt, context.alloc, &mut newcomer.own, bytes)?;
         self.input.skip(taken);
         Ok(Step::Done)
     }
@@ -305,7 +352,11 @@ impl<B: BusBrand, M: Mailbox> Session<B, M> {
     pub fn push_out<W: Wait>(&mut self, rt: &W)
         ensures { self.new ≡ record self.old { peer = client_written self.old.peer } }
     {
-        self.client.push_out(rt);
+        match &mut self.client {
+            Client::Newcomer(newcomer) => newcomer.own.push_out(rt),
+            Client::Peer(peer) => peer.push_out(rt),
+            Client::Arriving => {}
+        }
     }
 
     /// What the end of the client's bytes means here.
@@ -330,21 +381,25 @@ impl<B: BusBrand, M: Mailbox> Session<B, M> {
     }
 
     /// Ends the session: its names are given up and its connection is closed, each change announced, by the caller's lists, and
-    /// written out.
-    /// Answers what is left of it where memory was refused for that. Its reader, lent or its own, is given back to the bus.
+    /// written out. Its reader, lent or its own, is given back to the bus. Answers also what is left of it if memory was refused
+    /// for that.
+    ///
+    /// # Errors
+    ///
+    /// `NoMemory` if memory was refused to a message that tells of its leaving.
     pub fn end<W: Wait, R: Wait + Drop>(
         self,
         rt: &W,
         alloc: Global,
         bus: &Bus<B, M, R>,
         lists: &mut RouteLists,
-    ) -> Option<Rest<B, M>>
-        ensures { EndsAny M.outbox_of self.peer result }
+    ) -> (Result<(), SessionError>, Option<Rest<B, M>>)
+        ensures { EndsAny M.outbox_of self.peer result.0 result.1 }
     {
         let Session { client, .. } = self;
-        match client.into_peer() {
-            Some(peer) => end(peer, &Context::unlimited(rt, alloc, bus), lists),
-            None => None,
-        }
+        let Client::Peer(peer) = client else {
+            return (Ok(()), None);
+        };
+        end(peer, &Context::unlimited(rt, alloc, bus), lists)
     }
 }
