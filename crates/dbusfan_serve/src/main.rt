@@ -1,6 +1,9 @@
 //! The program dbusfan_serve: what the system gives to the command `serve`.
 #![tactic(auto)]
 
+ghost use Rattle.std.specs.Prelude.{IfOk};
+ghost use Rattle.serve_command.specs.Status.{IsStatus};
+
 use command_line::{Fault, Output, Stream, Writer, args};
 pub use serve_command::serve;
 use std::alloc::Global;
@@ -36,6 +39,7 @@ where
         + Wait
         + RandomSource
         + Sync,
+    ensures { IfOk result (λ status. IsStatus status) }
 {
     let args = args(rt)?;
     let words: Vec<&str> = args

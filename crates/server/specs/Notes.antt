@@ -1,14 +1,16 @@
 -- What is told of a bus, in a line each (own).
 use Rattle.std.specs.Prelude.{ℕ, ◌++◌, List, codes, decimal, Option, Some, None}
 use Rattle.sessions.specs.Errors.{text_of as session_error_text}
+use Rattle.sessions.specs.Openings.{opening_text}
 use Rattle.server.specs.Limits.{row_of}
 use Rattle.server.specs.declared.note.Cause.{Cause}
-use Rattle.server.specs.declared.note.Cause.TheVariants.{Session, Limit, BusEnds}
+use Rattle.server.specs.declared.note.Cause.TheVariants.{Session, Opening, Limit, BusEnds}
 use Rattle.server.specs.declared.note.Note.{Note}
 use Rattle.server.specs.declared.note.Note.TheVariants.{Came, Went, Ended, NoDescriptor, Lost}
 
 abbrev pub cause_text : Cause → List ℕ
 cause_text (Session error) = session_error_text error
+cause_text (Opening opening) = codes "NoHello (" ++ opening_text opening ++ codes ")"
 cause_text (Limit limit) = (row_of limit).name
 cause_text BusEnds = codes "the bus ends"
 

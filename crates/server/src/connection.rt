@@ -30,7 +30,7 @@ const BUSY: u32 = 2;
 const LONG: u64 = 1_048_576;
 
 /// What becomes of a connection after its turn.
-#[derive(Clone, Copy, PartialEq, Eq)]
+#[derive(Clone, Copy)]
 pub(crate) enum Turn {
     /// It waits for the poll.
     Waits,
@@ -140,6 +140,14 @@ impl<B: BusBrand> Connection<B> {
     fn is_silent(&self, now: Instant, silence: Duration) -> bool {
         self.beginning
             .is_some_and(|beginning| beginning.is_silent(now, silence))
+    }
+
+    /// A cause of its end, with the message that came in the place of Hello.
+    pub(crate) fn told(&self, cause: Cause) -> Cause {
+        match (cause, self.session.opening()) {
+            (Cause::Session(SessionError::NoHello), Some(opening)) => Cause::Opening(opening),
+            _ => cause,
+        }
     }
 
     /// Counts its client among those that are in, once its Hello is answered: before the answer is written, so that
@@ -268,16 +276,28 @@ impl<B: BusBrand> Connection<B> {
     }
 
     /// Whether its next message asks the bus about a client that has gone, and whose session hasn't ended: that comes
-    /// first, as it happened first. Whoever has gone too doesn't wait, so that no two wait for each other.
+    /// first, as it happened first. The message is read for this only if a client has gone that its first argument may name.
     fn asks_about_one_gone<W: Wait, R: Wait + Drop>(
         &mut self,
         rt: &W,
         server: &Server<B, R>,
         probe: &mut SocketProbe,
     ) -> bool {
-        let Some(number) = self.session.next_subject() else {
+        let Some(number) = self.session.possible_subject() else {
             return false;
         };
+        self.waits_for(rt, server, probe, number) && self.session.next_subject() == Some(number)
+    }
+
+    /// Whether a client has gone, and its session hasn't ended. Whoever has gone too doesn't wait, so that no two wait for
+    /// each other.
+    fn waits_for<W: Wait, R: Wait + Drop>(
+        &self,
+        rt: &W,
+        server: &Server<B, R>,
+        probe: &mut SocketProbe,
+        number: u64,
+    ) -> bool {
         let Some(link) = server.clients.link_of(rt, number) else {
             return false;
         };
@@ -313,14 +333,15 @@ impl<B: BusBrand> Connection<B> {
         self.beginning.map_or(0, |beginning| beginning.len())
     }
 
-    /// Ends it: what its socket still takes is written. The socket is given back, to be closed.
+    /// Ends it: what its socket still takes is written. The socket is given back, to be closed, and whether all were told that its
+    /// client has left.
     pub(crate) fn end<W: Wait, R: Wait + Drop>(
         self,
         rt: &W,
         alloc: Global,
         server: &Server<B, R>,
         lists: &mut RouteLists,
-    ) -> Arc<Link> {
+    ) -> (Arc<Link>, Result<(), SessionError>) {
         server.unfinished.give_back(self.beginning_len());
         let Connection {
             session,
@@ -332,10 +353,11 @@ impl<B: BusBrand> Connection<B> {
             is_held: _,
             ticket: _,
         } = self;
-        if let Some(rest) = session.end(rt, alloc, &server.bus, lists) {
+        let (told, rest) = session.end(rt, alloc, &server.bus, lists);
+        if let Some(rest) = rest {
             server.keep_rest(rt, rest);
         }
         mailbox.end(rt);
-        link
+        (link, told)
     }
 }

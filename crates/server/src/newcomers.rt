@@ -1,5 +1,8 @@
 // Connections that haven't said Hello.
 
+ghost use Rattle.std.specs.Prelude.{◌≡◌, ◌+◌, ◌-◌, ◌^◌, ◌<◌, min, MatchBool};
+ghost use Rattle.server.specs.declared.newcomers.Wanted.TheVariants.{Nothing};
+
 use endpoints::Link;
 use std::alloc::Global;
 use std::io;
@@ -33,9 +36,35 @@ struct Places {
 }
 
 impl Places {
+    /// Takes a place that is free. If none is, one newcomer goes, unless one was told to already.
+    fn take(&mut self) -> bool
+        ensures { MatchBool result
+            ((0 < self.old.free) × (self.new ≡ record self.old { free = self.old.free - 1; wanted = Nothing }))
+            ((self.old.free ≡ 0) × (self.new.free ≡ 0)) }
+    {
+        if self.free > 0 {
+            self.free = self.free.saturating_sub(1);
+            self.wanted = Wanted::Nothing;
+            return true;
+        }
+        if self.wanted == Wanted::Nothing {
+            self.close_oldest();
+        }
+        false
+    }
+
+    /// One place more is free.
+    fn give_back(&mut self)
+        ensures { self.new ≡ record self.old { free = min (self.old.free + 1) (2 ^ 32 - 1) } }
+    {
+        self.free = self.free.saturating_add(1);
+    }
+
     /// Makes the oldest newcomer go: its worker finds its socket shut, and gives its place back. Where none is there yet,
     /// the first that comes has to go.
-    fn close_oldest(&mut self) {
+    fn close_oldest(&mut self)
+        ensures { self.new.free ≡ self.old.free }
+    {
         if self.newcomers.is_empty() {
             self.wanted = Wanted::TheFirst;
         } else {
@@ -45,7 +74,9 @@ impl Places {
     }
 
     /// Whether a newcomer of this ticket was there, which is there no longer.
-    fn remove(&mut self, ticket: u64) -> bool {
+    fn remove(&mut self, ticket: u64) -> bool
+        ensures { self.new.free ≡ self.old.free }
+    {
         let before = self.newcomers.len();
         self.newcomers.retain(|newcomer| newcomer.ticket != ticket);
         self.newcomers.len() < before
@@ -73,16 +104,7 @@ impl Newcomers {
     /// Takes a place for a connection that comes, if one is free. If not, one newcomer goes, and its place can be taken
     /// once it is given back.
     pub(crate) fn take_place<R: Wait>(&self, rt: &R) -> bool {
-        let mut places = self.places.lock(rt);
-        if places.free > 0 {
-            places.free = places.free.saturating_sub(1);
-            places.wanted = Wanted::Nothing;
-            return true;
-        }
-        if places.wanted == Wanted::Nothing {
-            places.close_oldest();
-        }
-        false
+        self.places.lock(rt).take()
     }
 
     /// Notes a connection that has a place, and gives its ticket.
@@ -106,7 +128,6 @@ impl Newcomers {
 
     /// Gives back a place of a connection that has no ticket.
     pub(crate) fn give_back<R: Wait>(&self, rt: &R) {
-        let mut places = self.places.lock(rt);
-        places.free = places.free.saturating_add(1);
+        self.places.lock(rt).give_back();
     }
 }

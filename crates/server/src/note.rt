@@ -1,14 +1,16 @@
 // What whoever runs a bus may want to know.
 
 use crate::limit::Limit;
-use sessions::SessionError;
+use sessions::{Opening, SessionError};
 use std::fmt;
 
 /// Why the bus ended a session.
-#[derive(Clone, Copy, Debug, PartialEq, Eq)]
+#[derive(Clone, Copy, Debug)]
 pub enum Cause {
     /// What its client sent or took, or want of memory.
     Session(SessionError),
+    /// What came in the place of Hello, or a Hello that was refused.
+    Opening(Opening),
     /// It was kept by no limit of this kind.
     Limit(Limit),
     /// The bus ends, and with it all sessions.
@@ -17,6 +19,14 @@ pub enum Cause {
 
 impl Cause {
     pub(crate) const MEMORY: Cause = Cause::Session(SessionError::NoMemory);
+
+    /// The cause of an end, or else why not all were told of it.
+    pub(crate) fn or_untold(cause: Option<Cause>, told: Result<(), SessionError>) -> Option<Cause> {
+        match (cause, told) {
+            (None, Err(error)) => Some(Cause::Session(error)),
+            (cause, _) => cause,
+        }
+    }
 }
 
 impl fmt::Display for Cause {
@@ -28,6 +38,7 @@ impl fmt::Display for Cause {
     fn fmt<W: fmt::Write>(&self, f: &mut fmt::Formatter<W>) -> fmt::Result {
         match self {
             Cause::Session(error) => write!(f, "{error}"),
+            Cause::Opening(opening) => write!(f, "NoHello ({opening})"),
             Cause::Limit(limit) => f.write_str(limit.name()),
             Cause::BusEnds => f.write_str("the bus ends"),
         }
@@ -35,13 +46,13 @@ impl fmt::Display for Cause {
 }
 
 /// What happened on a bus. A client is known by the number of its unique name, which it has from Hello on.
-#[derive(Clone, Copy, Debug, PartialEq, Eq)]
+#[derive(Clone, Copy, Debug)]
 pub enum Note {
     /// Its Hello was accepted.
     Came(u64),
     /// It closed its socket, and has left the bus.
     Went(u64),
-    /// The bus ended its session.
+    /// The bus ended its session, or has told of its end only as far as there was memory.
     Ended(Option<u64>, Cause),
     /// No descriptor is left to accept the next connection by.
     NoDescriptor,
@@ -92,12 +103,11 @@ pub enum Verbosity {
 }
 
 impl Verbosity {
-    pub(crate) fn wants(self, note: Note) -> bool {
+    pub(crate) fn wants(self, note: &Note) -> bool {
         match (self, note) {
             (Verbosity::None, _) => false,
-            (Verbosity::Faults, Note::Came(_) | Note::Went(_) | Note::Ended(_, Cause::BusEnds)) => {
-                false
-            }
+            (Verbosity::Faults, Note::Came(_) | Note::Went(_)) => false,
+            (Verbosity::Faults, Note::Ended(_, Cause::BusEnds)) => false,
             _ => true,
         }
     }

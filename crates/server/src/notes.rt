@@ -39,7 +39,7 @@ impl Notes {
 
     /// Leaves a note, if such notes are wanted.
     pub(crate) fn leave<R: Wait>(&self, rt: &R, note: Note) {
-        if self.verbosity.wants(note) {
+        if self.verbosity.wants(&note) {
             self.waiting.lock(rt).add(note);
             self.grown.notify_one();
         }
@@ -79,7 +79,8 @@ impl Notes {
 
 #[derive(Drop)]
 struct Waiting {
-    notes: VecDeque<Note>,
+    alloc: Global,
+    notes: VecDeque<Box<Note>>,
     // How many found no room since the last one of them.
     lost: u64,
     // How many threads leave notes.
@@ -89,6 +90,7 @@ struct Waiting {
 impl Waiting {
     fn new(alloc: Global) -> Waiting {
         Waiting {
+            alloc,
             notes: VecDeque::new(alloc),
             lost: 0,
             threads: 1,
@@ -100,15 +102,27 @@ impl Waiting {
     }
 
     fn add(&mut self, note: Note) {
-        if self.lost > 0 || self.notes.len() >= ROOM || self.notes.push_back(note).is_err() {
+        if !self.has_room() || !self.push(note) {
             self.lost = self.lost.saturating_add(1);
+        }
+    }
+
+    fn has_room(&self) -> bool {
+        self.lost == 0 && self.notes.len() < ROOM
+    }
+
+    /// Whether there was memory for it.
+    fn push(&mut self, note: Note) -> bool {
+        match Box::new(self.alloc, note) {
+            Ok(note) => self.notes.push_back(note).is_ok(),
+            Err(_) => false,
         }
     }
 
     /// The next note. Those that found no room come after those that did.
     fn take(&mut self) -> Option<Note> {
         if let Some(note) = self.notes.pop_front() {
-            return Some(note);
+            return Some(*note);
         }
         match mem::replace(&mut self.lost, 0) {
             0 => None,

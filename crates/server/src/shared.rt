@@ -99,7 +99,8 @@ impl<B: BusBrand, R: Wait + Drop> Server<B, R> {
             if let Ok(reader) = self.bus.reader(rt) {
                 rest.lend(reader);
             }
-            if let Some(rest) = rest.retry(rt, alloc, &self.bus) {
+            let (_, rest) = rest.retry(rt, alloc, &self.bus);
+            if let Some(rest) = rest {
                 self.keep_rest(rt, rest);
                 return;
             }

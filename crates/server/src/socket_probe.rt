@@ -27,7 +27,17 @@ impl SocketProbe {
     }
 
     /// Whether the client at the other end has closed the socket, or the socket was shut. False where that can't be seen.
+    ///
+    /// An empty write tells it of a Unix socket in one call of the system, where a look at the poll takes three. A TCP socket
+    /// can still be written to.
     pub(crate) fn sees_end(&mut self, link: &Link) -> bool {
+        match link {
+            Link::Unix(_) => link.send(&[]).is_err(),
+            Link::Tcp(_) => self.poll_end(link),
+        }
+    }
+
+    fn poll_end(&mut self, link: &Link) -> bool {
         let descriptor = link.descriptor();
         let mut source = SourceFd(&descriptor);
         let interest = Interest::READABLE;

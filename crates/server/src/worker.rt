@@ -200,24 +200,29 @@ impl<'a, B: BusBrand, R: Wait + Drop> Worker<'a, B, R> {
         }
     }
 
-    /// Takes in a connection. Where memory runs out, or the bus ends, it is closed.
+    /// Takes in a connection, and gives it its first turn, since its client's first line has often come with it. Where memory
+    /// runs out, or the bus ends, it is closed.
     pub(crate) fn take<W: Wait + Clock>(&mut self, rt: &W, arrival: Arrival) {
         self.server.retry_rests(rt, self.alloc);
         if self.is_ending {
             self.server.turn_away(rt, Cause::BusEnds);
-        } else if self.register(rt, arrival).is_err() {
-            self.server.turn_away(rt, Cause::MEMORY);
+            return;
+        }
+        match self.register(rt, arrival) {
+            Ok(key) => self.serve_connection(rt, key, false, false),
+            Err(_) => self.server.turn_away(rt, Cause::MEMORY),
         }
     }
 
-    fn register<W: Wait + Clock>(&mut self, rt: &W, arrival: Arrival) -> io::Result<()> {
+    /// Answers the connection's key.
+    fn register<W: Wait + Clock>(&mut self, rt: &W, arrival: Arrival) -> io::Result<usize> {
         self.connections.reserve(1)?;
-        let token = Token(self.connections.vacant_key());
+        let key = self.connections.vacant_key();
         let handle = Arc::try_clone(&self.handle)?;
-        let connection = Connection::new(rt, self.alloc, self.server, arrival, handle, token)?;
+        let connection = Connection::new(rt, self.alloc, self.server, arrival, handle, Token(key))?;
         self.connections.insert_reserved(connection);
         self.recount(false, true);
-        Ok(())
+        Ok(key)
     }
 
     /// Gives a connection its turn: it writes and reads as far as it goes, to the end where its client's bytes may have
@@ -335,24 +340,35 @@ impl<'a, B: BusBrand, R: Wait + Drop> Worker<'a, B, R> {
     }
 
     /// Ends a connection, for a cause unless its client is gone.
-    fn end<W: Wait>(&mut self, rt: &W, key: usize, mut cause: Option<Cause>) {
+    fn end<W: Wait>(&mut self, rt: &W, key: usize, cause: Option<Cause>) {
         let Some(mut connection) = self.connections.try_remove(key) else {
             return;
         };
         self.recount(connection.is_watched(), false);
-        if !connection.is_in && !self.server.newcomers.leave(rt, connection.ticket) {
-            cause = Some(Cause::Limit(Limit::Newcomers));
-        }
+        let cause = self.cause_of_end(rt, &connection, cause);
         let number = connection.session.number();
         self.find_reader(rt);
         connection.lend(self.reader.take());
-        let link = connection.end(rt, self.alloc, self.server, &mut self.scratch.aids.lists);
+        let lists = &mut self.scratch.aids.lists;
+        let (link, told) = connection.end(rt, self.alloc, self.server, lists);
         if let Some(number) = number {
             self.server.clients.leave(rt, number);
         }
         close(link);
-        if let Some(note) = Note::of_end(number, cause) {
+        if let Some(note) = Note::of_end(number, Cause::or_untold(cause, told)) {
             self.server.notes.leave(rt, note);
         }
+    }
+    /// Why a connection ends. One without Hello is no newcomer any more; if it was none already, a further one has closed it.
+    fn cause_of_end<W: Wait>(
+        &self,
+        rt: &W,
+        connection: &Connection<B>,
+        cause: Option<Cause>,
+    ) -> Option<Cause> {
+        if !connection.is_in && !self.server.newcomers.leave(rt, connection.ticket) {
+            return Some(Cause::Limit(Limit::Newcomers));
+        }
+        Some(connection.told(cause?))
     }
 }
