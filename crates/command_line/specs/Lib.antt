@@ -1,4 +1,5 @@
 pub use Rattle.usage.specs.Asking
+pub mod Numbers
 pub mod CommandRow
 pub mod RowReading
 pub mod Views

@@ -16,15 +16,15 @@ names_of (One first) = first.now ∷ []
 names_of (Two first second) = first.now ∷ second.now ∷ []
 
 abbrev pub options_of : given.Options → Options
-options_of all = record { owns = all.owns; each = all.each; why = all.why; trace = all.trace; edition = all.edition; filter = option_map (λ word. word.now) all.filter }
+options_of all = record { owns = all.owns; each = all.each; why = all.why; trace = all.trace; nearest = all.nearest; edition = all.edition; filter = option_map (λ word. word.now) all.filter }
 
 abbrev pub gathering_of : Gathered → Gathering
 gathering_of all = record { names = names_of all.names; options = options_of all.options; awaited = all.awaited }
 
 -- a row of the code as what it asks for
 abbrev pub asked_by : CommandRow → Asked
-asked_by (Match rule file owns each why) = to_match rule.now file.now owns each why
-asked_by (MatchFilter expression file owns each) = to_match_filter expression.now file.now owns each
+asked_by (Match rule file owns each why nearest) = to_match rule.now file.now owns each why nearest
+asked_by (MatchFilter expression file owns each why) = to_match_filter expression.now file.now owns each why
 asked_by (Asm file) = to_asm file.now
 asked_by (Check file) = to_check file.now
 asked_by (Compile rule) = to_compile rule.now

@@ -6,22 +6,24 @@ use summary::Edition;
 /// What a command line asks for.
 #[derive(Clone, Copy)]
 pub enum CommandRow<'a> {
-    /// `match RULE FILE [--owns] [--each] [--why]`: does the rule match the message in the file, or which messages of
-    /// the capture in it? And why not?
+    /// `match RULE FILE [--owns] [--each [--nearest N]] [--why]`: does the rule match the message in the file, or which
+    /// messages of the capture in it? And why not, or which are nearest to it?
     Match {
         rule: &'a str,
         file: &'a str,
         owns: bool,
         each: bool,
         why: bool,
+        nearest: Option<u64>,
     },
-    /// `match --filter EXPR FILE [--owns] [--each]`: does the filter hold of the message in the file, or of which messages of
-    /// the capture in it?
+    /// `match --filter EXPR FILE [--owns] [--each] [--why]`: does the filter hold of the message in the file, or of which
+    /// messages of the capture in it? And which of its tests do?
     MatchFilter {
         filter: &'a str,
         file: &'a str,
         owns: bool,
         each: bool,
+        why: bool,
     },
     /// `asm FILE`: the byte form of the program in the file.
     Asm {
@@ -54,8 +56,8 @@ impl<'a> CommandRow<'a> {
     ghost use Rattle.std.specs.Prelude.{◌≡◌, IfSome, Some};
     ghost use Rattle.std.specs.Option.{option_map};
     ghost use Rattle.command_line.specs.CommandRow.{Asked, IsRow, texts};
-    ghost use Rattle.command_line.specs.Views.{asked_by};
-    ghost use Rattle.command_line.specs.RowReading.{asked_in};
+    ghost use Rattle.command_line.specs.Views.{asked_by, gathering_of};
+    ghost use Rattle.command_line.specs.RowReading.{asked_in, asked_of};
 
     /// The row that some words are, if they are one.
     pub fn read(words: &[&'a str]) -> Option<CommandRow<'a>>
@@ -70,7 +72,14 @@ impl<'a> CommandRow<'a> {
     {
         let (command, words) = words.split_first()?;
         let gathered = Gathered::read(words)?;
-        match *command {
+        CommandRow::of_command(command, gathered)
+    }
+
+    /// What a command and the words gathered after it ask for.
+    fn of_command(command: &str, gathered: Gathered<'a>) -> Option<CommandRow<'a>>
+        ensures { option_map asked_by result ≡ asked_of command.now (gathering_of gathered.entry) }
+    {
+        match command {
             "match" => gathered.to_match(),
             "asm" => Some(CommandRow::Asm {
                 file: gathered.only_word()?,

@@ -5,6 +5,7 @@ ghost use Rattle.command_line.specs.CommandRow.{is_option};
 ghost use Rattle.command_line.specs.RowReading.{edition_of};
 
 use crate::command_row::CommandRow;
+use crate::number::number_of;
 use crate::options::Options;
 use summary::Edition;
 
@@ -20,6 +21,8 @@ pub(crate) enum Names<'a> {
 pub(crate) enum Awaited {
     /// An option, `--` or a name.
     AnyWord,
+    /// The number of `--nearest`.
+    NearestWord,
     /// The word of `--edition`.
     EditionWord,
     /// The expression of `--filter`, which may be any word.
@@ -40,7 +43,7 @@ impl<'a> Gathered<'a> {
     ghost use Rattle.std.specs.Prelude.{◌≡◌, map};
     ghost use Rattle.std.specs.Option.{option_map};
     ghost use Rattle.command_line.specs.Views.{asked_by, names_of, options_of, gathering_of};
-    ghost use Rattle.command_line.specs.RowReading.{no_words, with_name, with_owns, with_each, with_why, with_trace, with_edition, with_edition_word, with_filter, with_filter_word, with_any, with_word, gather, match_of, compile_of, only_word, run_of};
+    ghost use Rattle.command_line.specs.RowReading.{no_words, with_name, with_owns, with_each, with_why, with_trace, with_nearest, with_nearest_word, with_edition, with_edition_word, with_filter, with_filter_word, with_any, with_word, gather, match_of, compile_of, only_word, run_of};
 
     fn nothing() -> Gathered<'a>
         ensures { gathering_of result ≡ no_words }
@@ -61,7 +64,7 @@ impl<'a> Gathered<'a> {
             so_far = so_far.with_word(words[i])?;
         }
         match so_far.awaited {
-            Awaited::EditionWord | Awaited::FilterWord => None,
+            Awaited::NearestWord | Awaited::EditionWord | Awaited::FilterWord => None,
             Awaited::AnyWord | Awaited::NameAlone => Some(so_far),
         }
     }
@@ -71,6 +74,7 @@ impl<'a> Gathered<'a> {
     {
         match self.awaited {
             Awaited::AnyWord => self.with_any(word),
+            Awaited::NearestWord => self.with_nearest_word(word),
             Awaited::EditionWord => self.with_edition_word(word),
             Awaited::FilterWord => Some(self.with_filter_word(word)),
             Awaited::NameAlone => self.with_name(word),
@@ -89,6 +93,7 @@ impl<'a> Gathered<'a> {
             "--each" => self.with_each(),
             "--why" => self.with_why(),
             "--trace" => self.with_trace(),
+            "--nearest" => self.with_nearest(),
             "--edition" => self.with_edition(),
             "--filter" => self.with_filter(),
             _ if is_option(word) => None,
@@ -146,6 +151,33 @@ impl<'a> Gathered<'a> {
             ..self.options
         };
         Some(Gathered { options, ..self })
+    }
+
+    fn with_nearest(self) -> Option<Gathered<'a>>
+        ensures { option_map gathering_of result ≡ with_nearest (gathering_of self.entry) }
+    {
+        if self.options.nearest.is_some() {
+            return None;
+        }
+        Some(Gathered {
+            awaited: Awaited::NearestWord,
+            ..self
+        })
+    }
+
+    fn with_nearest_word(self, word: &str) -> Option<Gathered<'a>>
+        ensures { option_map gathering_of result ≡ with_nearest_word word.now (gathering_of self.entry) }
+    {
+        let count = number_of(word)?;
+        let options = Options {
+            nearest: Some(count),
+            ..self.options
+        };
+        Some(Gathered {
+            options,
+            awaited: Awaited::AnyWord,
+            ..self
+        })
     }
 
     fn with_edition(self) -> Option<Gathered<'a>>
@@ -220,28 +252,29 @@ impl<'a> Gathered<'a> {
             owns,
             each,
             why,
-            trace,
+            nearest,
             ..
         } = self.options;
         match (self.names, self.options.filter) {
-            (Names::Two(rule, file), None) if !trace && self.options.edition.is_none() => {
+            (Names::Two(rule, file), None) if self.options.fit_a_rule() => {
                 Some(CommandRow::Match {
                     rule,
                     file,
                     owns,
                     each,
                     why,
+                    nearest,
                 })
             }
-            (Names::One(file), Some(filter)) if !why && !trace && self.options.edition.is_none() =>
-                {
-                    Some(CommandRow::MatchFilter {
-                        filter,
-                        file,
-                        owns,
-                        each,
-                    })
-                }
+            (Names::One(file), Some(filter)) if self.options.fit_a_filter() => {
+                Some(CommandRow::MatchFilter {
+                    filter,
+                    file,
+                    owns,
+                    each,
+                    why,
+                })
+            }
             _ => None,
         }
     }
@@ -279,11 +312,12 @@ impl<'a> Gathered<'a> {
             each,
             why,
             trace,
+            nearest,
             edition,
             ..
         } = self.options;
         match (self.names, self.options.filter) {
-            (Names::Two(program, file), None) if !owns && !why => {
+            (Names::Two(program, file), None) if !owns && !why && nearest.is_none() => {
                 if program == "-" && file == "-" {
                     return None;
                 }

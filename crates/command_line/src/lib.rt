@@ -8,6 +8,7 @@ mod error;
 mod files;
 mod gathered;
 mod hex_text;
+mod number;
 mod options;
 mod output;
 mod progress;

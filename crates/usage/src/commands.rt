@@ -74,7 +74,7 @@ pub(crate) static COMMANDS: [CommandHelp; 7] = [
     CommandHelp {
         name: "match",
         about: "Says whether a rule or a filter matches a message, or messages of a capture",
-        arguments: &[RULE, MESSAGE, FILTER, OWNS, EACH, WHY],
+        arguments: &[RULE, MESSAGE, FILTER, OWNS, EACH, WHY, NEAREST],
     },
     CommandHelp {
         name: "asm",
@@ -225,7 +225,7 @@ pub(crate) static COMMANDS: [CommandHelp; 7] = [
                 name: "why",
                 form: Form::Flag,
                 is_required: false,
-                text: "Shows the messages that the one rule doesn't match, and which conditions don't hold",
+                text: "Shows the messages that fail the one rule by one condition alone, or the filter by one test, and which it is",
             },
             ArgumentHelp {
                 name: "rules",
@@ -372,7 +372,14 @@ const WHY: ArgumentHelp = ArgumentHelp {
     name: "why",
     form: Form::Flag,
     is_required: false,
-    text: "Says of a message that doesn't match which conditions don't hold, and what it has there",
+    text: "Says of a message that doesn't match which conditions don't hold, and what it has there; with --filter, of each test whether it holds",
+};
+
+const NEAREST: ArgumentHelp = ArgumentHelp {
+    name: "nearest",
+    form: Form::Value(Value::Number),
+    is_required: false,
+    text: "With --each: prints only the N messages that fail by the fewest conditions, and why",
 };
 
 const TRACE: ArgumentHelp = ArgumentHelp {
