@@ -8,8 +8,11 @@ use Rattle.dbusfan_tool.specs.declared.tally.Tally.{Tally}
 use Rattle.dbusfan_tool.specs.declared.wording.Wording.{Wording}
 use Rattle.dbusfan_tool.specs.Answer.{Said, after_lines}
 use Rattle.dbusfan_tool.specs.Findings.{judged_count, accepted_count}
-use Rattle.dbusfan_tool.specs.Reports.{verdict_line, verdict_lines, note_line, note_lines, lines_of, last_line, passed_over_line, capture_line, capture_status, said_of_capture}
+use Rattle.dbusfan_tool.specs.Reports.{verdict_line, verdict_lines, note_line, note_lines, lines_of, last_line, passed_over_line, capture_line, capture_status, nearest_by, said_of_capture}
+use Rattle.dbusfan_tool.specs.Nearest.{near_lines}
+use Rattle.dbusfan_tool.specs.Places.{kept_by}
 use Rattle.dbusfan_tool.specs.Tallies.{IsTally}
+use Rattle.dbusfan_tool.proofs.NearestKept.{kept_nearest}
 
 -- ---- one finding more
 
@@ -71,41 +74,49 @@ same_said a b c d e f m n ab cd ef mn =
 
 module _ (words : Wording) (each : Bool) (written : List ℕ) (found : List Finding) (passed : ℕ) where
   -- a finding was taken: its lines were put, then it was counted
-  pub one_more : (old between counted : Tally) (finding : Finding) (number : ℕ) → IsTally words each old written found passed
+  pub one_more : (old between counted kept : Tally) (finding : Finding) (number : ℕ) → IsTally words each old written found passed
       → number ≡ old.packets + 1
       → string_bytes between.lines ≡ string_bytes old.lines ++ (if old.each then verdict_line old.words number finding else [])
       → string_bytes between.notes ≡ string_bytes old.notes ++ note_line number finding
       → between ≡ record old { lines = between.lines; notes = between.notes }
       → counted ≡ record between { judged = between.judged + judged_count (finding ∷ []); accepted = between.accepted + accepted_count (finding ∷ []) }
-      → IsTally words each (record counted { packets = number }) written (found ++ finding ∷ []) passed
-  one_more old between counted finding number tally number_is lines notes puts counts =
+      → kept.nearest.items ≡ kept_by counted.words counted.nearest.items number finding
+      → kept ≡ record counted { nearest = kept.nearest }
+      → IsTally words each (record kept { packets = number }) written (found ++ finding ∷ []) passed
+  one_more old between counted kept finding number tally number_is lines notes puts counts keeps rest =
       let place : number ≡ 1 + length found = omega (arith, number_is, tally.packets_are) in
       let line : (if old.each then verdict_line old.words number finding else []) ≡ (if each then verdict_line words (1 + length found) finding else []) =
       ap (λ (b : Bool). if b then verdict_line old.words number finding else []) tally.each_is
       ∙ ap (λ (w : Wording). if each then verdict_line w number finding else []) tally.words_are
       ∙ ap (λ (n : ℕ). if each then verdict_line words n finding else []) place in
       record {
-        words_are = ap (λ (t : Tally). t.words) counts ∙ ap (λ (t : Tally). t.words) puts ∙ tally.words_are;
-        each_is = ap (λ (t : Tally). t.each) counts ∙ ap (λ (t : Tally). t.each) puts ∙ tally.each_is;
+        words_are = ap (λ (t : Tally). t.words) rest ∙ ap (λ (t : Tally). t.words) counts ∙ ap (λ (t : Tally). t.words) puts ∙ tally.words_are;
+        each_is = ap (λ (t : Tally). t.each) rest ∙ ap (λ (t : Tally). t.each) counts ∙ ap (λ (t : Tally). t.each) puts ∙ tally.each_is;
         lines_are =
-            ap (λ (t : Tally). written ++ string_bytes t.lines) counts ∙ ap (λ (text : List ℕ). written ++ text) lines
+            ap (λ (t : Tally). written ++ string_bytes t.lines) rest ∙ ap (λ (t : Tally). written ++ string_bytes t.lines) counts ∙ ap (λ (text : List ℕ). written ++ text) lines
             ∙ sym (append_assoc written (string_bytes old.lines) (if old.each then verdict_line old.words number finding else []))
             ∙ ap (λ (text : List ℕ). text ++ (if old.each then verdict_line old.words number finding else [])) tally.lines_are
             ∙ ap (λ (text : List ℕ). lines_of words each found ++ text) line
             ∙ sym (either_line words each found finding);
         notes_are =
-            ap (λ (t : Tally). string_bytes t.notes) counts ∙ notes
+            ap (λ (t : Tally). string_bytes t.notes) rest ∙ ap (λ (t : Tally). string_bytes t.notes) counts ∙ notes
             ∙ ap (λ (text : List ℕ). text ++ note_line number finding) tally.notes_are
             ∙ ap (λ (n : ℕ). note_lines 1 found ++ note_line n finding) place
             ∙ sym (one_more_note 1 found finding);
         packets_are = let e : number ≡ length (found ++ finding ∷ []) = simp length-append (omega (arith, place)) in e;
         judged_are =
-            ap (λ (t : Tally). t.judged) counts ∙ ap (λ (t : Tally). t.judged + judged_count (finding ∷ [])) puts
+            ap (λ (t : Tally). t.judged) rest ∙ ap (λ (t : Tally). t.judged) counts ∙ ap (λ (t : Tally). t.judged + judged_count (finding ∷ [])) puts
             ∙ ap (λ (n : ℕ). n + judged_count (finding ∷ [])) tally.judged_are ∙ sym (one_more_judged found finding);
         accepted_are =
-            ap (λ (t : Tally). t.accepted) counts ∙ ap (λ (t : Tally). t.accepted + accepted_count (finding ∷ [])) puts
+            ap (λ (t : Tally). t.accepted) rest ∙ ap (λ (t : Tally). t.accepted) counts ∙ ap (λ (t : Tally). t.accepted + accepted_count (finding ∷ [])) puts
             ∙ ap (λ (n : ℕ). n + accepted_count (finding ∷ [])) tally.accepted_are ∙ sym (one_more_accepted found finding);
-        passed_over_are = ap (λ (t : Tally). t.passed_over) counts ∙ ap (λ (t : Tally). t.passed_over) puts ∙ tally.passed_over_are;
+        passed_over_are = ap (λ (t : Tally). t.passed_over) rest ∙ ap (λ (t : Tally). t.passed_over) counts ∙ ap (λ (t : Tally). t.passed_over) puts ∙ tally.passed_over_are;
+        nearest_are =
+            keeps
+            ∙ ap (λ (t : Tally). kept_by t.words t.nearest.items number finding) counts
+            ∙ ap (λ (t : Tally). kept_by t.words t.nearest.items number finding) puts
+            ∙ ap (λ (w : Wording). kept_by w old.nearest.items number finding) tally.words_are
+            ∙ kept_nearest words old.nearest.items found finding number tally.nearest_are place;
       }
 
   -- the lines were written
@@ -119,24 +130,28 @@ module _ (words : Wording) (each : Bool) (written : List ℕ) (found : List Find
     judged_are = ap (λ (t : Tally). t.judged) is ∙ tally.judged_are;
     accepted_are = ap (λ (t : Tally). t.accepted) is ∙ tally.accepted_are;
     passed_over_are = ap (λ (t : Tally). t.passed_over) is ∙ tally.passed_over_are;
+    nearest_are = ap (λ (t : Tally). t.nearest.items) is ∙ tally.nearest_are;
   }
 
   -- all that is said at the end, where all lines were written
-  pub said_at_end : (tally : Tally) (fault : Option CaptureError) (output notes : List ℕ) (status : ℕ) → IsTally words each tally written found passed → string_bytes tally.lines ≡ []
-      → output ≡ string_bytes tally.lines ++ last_line tally.words tally.each tally.accepted tally.judged
+  pub said_at_end : (tally : Tally) (fault : Option CaptureError) (listed output notes : List ℕ) (status : ℕ) → IsTally words each tally written found passed → string_bytes tally.lines ≡ []
+      → listed ≡ string_bytes tally.lines ++ near_lines tally.nearest.items
+      → output ≡ listed ++ last_line tally.words tally.each tally.accepted tally.judged
       → notes ≡ string_bytes tally.notes ++ passed_over_line tally.passed_over ++ capture_line fault
       → status ≡ capture_status fault tally.accepted
       → after_lines written (record { lines = []; output = output; error = notes; status = status }) ≡ said_of_capture words each (record { findings = found; passed_over = passed; fault = fault })
-  said_at_end tally fault output notes status is empty output_is notes_is status_is =
+  said_at_end tally fault listed output notes status is empty listed_is output_is notes_is status_is =
       let lines : written ≡ lines_of words each found =
       sym (append-nil written) ∙ ap (λ (text : List ℕ). written ++ text) (sym empty) ∙ is.lines_are in
-      let last : output ≡ last_line words each (accepted_count found) (judged_count found) =
+      let nearest : listed ≡ near_lines (nearest_by words found) =
+      listed_is ∙ ap (λ (text : List ℕ). text ++ near_lines tally.nearest.items) empty ∙ ap near_lines is.nearest_are in
+      let last : output ≡ near_lines (nearest_by words found) ++ last_line words each (accepted_count found) (judged_count found) =
       output_is
-      ∙ ap (λ (text : List ℕ). text ++ last_line tally.words tally.each tally.accepted tally.judged) empty
-      ∙ ap (λ (w : Wording). last_line w tally.each tally.accepted tally.judged) is.words_are
-      ∙ ap (λ (b : Bool). last_line words b tally.accepted tally.judged) is.each_is
-      ∙ ap (λ (n : ℕ). last_line words each n tally.judged) is.accepted_are
-      ∙ ap (λ (n : ℕ). last_line words each (accepted_count found) n) is.judged_are in
+      ∙ ap (λ (text : List ℕ). text ++ last_line tally.words tally.each tally.accepted tally.judged) nearest
+      ∙ ap (λ (w : Wording). near_lines (nearest_by words found) ++ last_line w tally.each tally.accepted tally.judged) is.words_are
+      ∙ ap (λ (b : Bool). near_lines (nearest_by words found) ++ last_line words b tally.accepted tally.judged) is.each_is
+      ∙ ap (λ (n : ℕ). near_lines (nearest_by words found) ++ last_line words each n tally.judged) is.accepted_are
+      ∙ ap (λ (n : ℕ). near_lines (nearest_by words found) ++ last_line words each (accepted_count found) n) is.judged_are in
       let noted : notes ≡ note_lines 1 found ++ passed_over_line passed ++ capture_line fault =
       notes_is ∙ ap (λ (text : List ℕ). text ++ passed_over_line tally.passed_over ++ capture_line fault) is.notes_are
       ∙ ap (λ (n : ℕ). note_lines 1 found ++ passed_over_line n ++ capture_line fault) is.passed_over_are in

@@ -11,11 +11,13 @@ pub mod Listing
 pub mod Program
 pub mod Compiling
 pub mod Answer
+pub mod Nearest
 pub mod Reports
 pub mod FileJudgements
 pub mod Usage
 pub mod Tool
 pub mod Serving
 pub mod Tallies
+pub mod Places
 pub mod CaptureSteps
 pub mod FirstBytes

@@ -4,7 +4,7 @@ use Rattle.dbusfan_tool.specs.declared.finding.Finding.{Finding}
 use Rattle.dbusfan_tool.specs.declared.tally.Tally.{Tally}
 use Rattle.dbusfan_tool.specs.declared.wording.Wording.{Wording}
 use Rattle.dbusfan_tool.specs.Findings.{judged_count, accepted_count}
-use Rattle.dbusfan_tool.specs.Reports.{lines_of, note_lines}
+use Rattle.dbusfan_tool.specs.Reports.{lines_of, nearest_by, note_lines}
 
 -- The findings of some packets are counted, and their lines are written or wait to be.
 pub record IsTally (words : Wording) (each : Bool) (tally : Tally) (written : List ℕ) (found : List Finding) (passed : ℕ) : Type 0 where
@@ -16,3 +16,4 @@ pub record IsTally (words : Wording) (each : Bool) (tally : Tally) (written : Li
   pub judged_are : tally.judged ≡ judged_count found
   pub accepted_are : tally.accepted ≡ accepted_count found
   pub passed_over_are : tally.passed_over ≡ passed
+  pub nearest_are : tally.nearest.items ≡ nearest_by words found

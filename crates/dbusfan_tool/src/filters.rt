@@ -1,6 +1,6 @@
-// `match --filter EXPR FILE [--owns] [--each]` and `compile --filter EXPR`.
+// `match --filter EXPR FILE [--owns] [--each] [--why]` and `compile --filter EXPR`.
 
-ghost use Rattle.std.specs.Prelude.{◌≡◌, ◌⊎◌, ◌≤◌, ℕ, nat_lt, List, Result, Ok, Err, IfOk, IfErr, string_bytes};
+ghost use Rattle.std.specs.Prelude.{◌≡◌, ◌⊎◌, ℕ, List, Result, Ok, Err, IfOk, IfErr, option_map, string_bytes};
 ghost use Rattle.command_line.specs.CommandRow.{to_match_filter};
 ghost use Rattle.command_line.specs.Files.{MadeReads};
 ghost use Rattle.command_line.specs.Output.{PutsParts};
@@ -10,7 +10,7 @@ ghost use Rattle.filter.specs.Filters.{tree_of};
 ghost use Rattle.filter.specs.Grammar.{ReadsAs};
 ghost use Rattle.filter_compile.specs.Compiled.{AgreeOn, IsCompiled, IsRefusal};
 ghost use Rattle.filter_compile.specs.declared.error.CompileError.{CompileError};
-ghost use Rattle.summary.specs.Sets.{has_slot, IsSet};
+ghost use Rattle.summary.specs.Sets.{IsSet};
 ghost use Rattle.dbusfan_tool.specs.Answer.{said_of, saying, failing};
 ghost use Rattle.dbusfan_tool.specs.Compiling.{CompilesFilter, IsFilterFault, fault_of_filter_compile};
 ghost use Rattle.dbusfan_tool.specs.Judges.{by_filter};
@@ -20,17 +20,16 @@ ghost use Rattle.dbusfan_tool.specs.Views.{said_by, SaysAfter};
 
 use crate::answer::Answer;
 use crate::file_judging;
+use crate::matching::front_of;
 use crate::program_judge::ProgramJudge;
 use bpf_text::print;
 use bpf_verify::Verified;
 use command_line::{Fault, Files, Output, Writer};
 use filter::Filter;
-use filter_compile::{CompileError, Names, compile};
+use filter_compile::{CompileError, compile};
+use filter_reasons::slots_of;
 use std::alloc::Global;
 use summary::Slots;
-
-/// A filter that asks for more names weighs more than 8 for each of them, and isn't compiled.
-const MAX_NAMES: usize = 1024;
 
 /// Whether the filter matches the message in the file, or messages of the capture in it, or the first fault.
 pub(crate) fn match_answer<F: Files, O: Writer>(
@@ -39,13 +38,14 @@ pub(crate) fn match_answer<F: Files, O: Writer>(
     file: &str,
     owns: bool,
     each: bool,
+    why: bool,
     files: &mut F,
     out: &mut Output<O>,
 ) -> Answer
     ensures { (written : List ℕ) × PutsParts O.takes O.flushes O.may_fail out.old out.new written
-        × SaysAfter (Tool (MadeReads F.gives files.old files.new) (to_match_filter expression.now file.now owns each)) written result }
+        × SaysAfter (Tool (MadeReads F.gives files.old files.new) (to_match_filter expression.now file.now owns each why)) written result }
 {
-    match filter_judge(alloc, expression, owns) {
+    match filter_judge(alloc, expression, owns, front_of(why, each)) {
         Ok(judge) => file_judging::answer(alloc, &judge, file, each, files, out),
         Err(fault) => Answer::Fault(fault),
     }
@@ -73,14 +73,19 @@ fn compile_text(alloc: Global, expression: &str) -> Result<String, Fault>
 }
 
 /// The judge of the filter that an expression spells, or the first fault.
-fn filter_judge(alloc: Global, expression: &str, owns: bool) -> Result<ProgramJudge, Fault>
-    ensures found { IfOk result (λ judge. (tree : FilterTree) × ReadsAs expression.now tree × Serves (by_filter tree owns) judge) }
+fn filter_judge(
+    alloc: Global,
+    expression: &str,
+    owns: bool,
+    front: Option<&'static str>,
+) -> Result<ProgramJudge, Fault>
+    ensures found { IfOk result (λ judge. (tree : FilterTree) × ReadsAs expression.now tree × Serves (by_filter tree owns (option_map (λ text. text.now) front.entry)) judge) }
     ensures fault { IfErr result (λ fault. IsFilterFault expression.now fault ⊎ (fault ≡ Fault.Memory)) }
 {
     let filter = Filter::read(alloc, expression)?;
     let program = program_of(alloc, &filter)?;
-    let slots = slots_of(alloc, &filter, owns)?;
-    Ok(ProgramJudge::of_filter(program, slots))
+    let slots = owned_slots(alloc, &filter, owns)?;
+    Ok(ProgramJudge::of_filter(program, slots, filter, owns, front))
 }
 
 /// The program of a filter, or what it means for a command that there is none.
@@ -95,32 +100,14 @@ fn program_of(alloc: Global, filter: &Filter) -> Result<Verified, Fault>
 }
 
 /// The slots of all names that a filter asks for, where the sender owns them, and else none.
-fn slots_of(alloc: Global, filter: &Filter, owns: bool) -> Result<Slots, Fault>
+fn owned_slots(alloc: Global, filter: &Filter, owns: bool) -> Result<Slots, Fault>
     ensures owned { IfOk result (λ slots. IsSet slots × AgreeOn (tree_of filter.now) (λ name. owns) slots) }
     ensures refused { IfErr result (λ fault. (error : CompileError) × IsRefusal (tree_of filter.now) error × (fault ≡ fault_of_filter_compile error)) }
 {
-    if !owns {
-        return Ok(Slots::empty());
+    match slots_of(alloc, filter, owns) {
+        Ok(slots) => Ok(slots),
+        Err(error) => Err(fault_of(error)),
     }
-    let names = Names::of(alloc, filter)?;
-    let count = names.as_slice().len();
-    if count > MAX_NAMES {
-        return Err(Fault::HeavyFilter);
-    }
-    Ok(first_slots(count as u16))
-}
-
-/// The first `count` slots.
-fn first_slots(count: u16) -> Slots
-    requires { count ≤ 1024 }
-    ensures set { IsSet result }
-    ensures first { (slot : ℕ) → has_slot result slot ≡ nat_lt slot count }
-{
-    let mut slots = Slots::empty();
-    for slot in 0..count {
-        slots.insert(slot);
-    }
-    slots
 }
 
 fn fault_of(error: CompileError) -> Fault

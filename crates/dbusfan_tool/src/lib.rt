@@ -17,6 +17,7 @@ mod finding;
 mod help;
 mod judgement;
 mod matching;
+mod nearest;
 mod program;
 mod program_judge;
 mod reasons;

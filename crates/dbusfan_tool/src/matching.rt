@@ -1,6 +1,6 @@
-// `match RULE FILE [--owns] [--each] [--why]`.
+// `match RULE FILE [--owns] [--each [--nearest N]] [--why]`.
 
-ghost use Rattle.std.specs.Prelude.{◌≡◌, ◌⊎◌, ℕ, List, IfOk, IfErr, option_map};
+ghost use Rattle.std.specs.Prelude.{◌≡◌, ◌⊎◌, ◌||◌, ℕ, List, IfOk, IfErr, is_some, option_map};
 ghost use Rattle.command_line.specs.CommandRow.{to_match};
 ghost use Rattle.command_line.specs.Files.{MadeReads};
 ghost use Rattle.command_line.specs.Output.{PutsParts};
@@ -28,21 +28,23 @@ pub(crate) fn answer<F: Files, O: Writer>(
     owns: bool,
     each: bool,
     why: bool,
+    nearest: Option<u64>,
     files: &mut F,
     out: &mut Output<O>,
 ) -> Answer
     ensures { (written : List ℕ) × PutsParts O.takes O.flushes O.may_fail out.old out.new written
-        × SaysAfter (Tool (MadeReads F.gives files.old files.new) (to_match rule.now file.now owns each why)) written result }
+        × SaysAfter (Tool (MadeReads F.gives files.old files.new) (to_match rule.now file.now owns each why nearest)) written result }
 {
-    match rule_judge(alloc, rule, owns, front_of(why, each)) {
+    let front = rule_front(why, nearest, each);
+    match rule_judge(alloc, rule, owns, front, nearest) {
         Ok(program_judge) => { file_judging::answer(alloc, &program_judge, file, each, files, out) }
         Err(fault) => Answer::Fault(fault),
     }
 }
 
-/// What comes before each reason why the rule doesn't match: reasons follow one another on the line of a capture's message,
-/// and of a message alone each has a line.
-fn front_of(why: bool, each: bool) -> Option<&'static str>
+/// What comes before each reason why the rule doesn't match, or each test of a filter: they follow one another on the line of a
+/// capture's message, and of a message alone each has a line.
+pub(crate) fn front_of(why: bool, each: bool) -> Option<&'static str>
     ensures { option_map (λ text. text.now) result ≡ front_of why each }
 {
     match (why, each) {
@@ -52,17 +54,25 @@ fn front_of(why: bool, each: bool) -> Option<&'static str>
     }
 }
 
+/// What comes before each reason why a rule doesn't match. It is said of the nearest messages.
+fn rule_front(why: bool, nearest: Option<u64>, each: bool) -> Option<&'static str>
+    ensures { option_map (λ text. text.now) result ≡ front_of (why || is_some nearest) each }
+{
+    front_of(why || nearest.is_some(), each)
+}
+
 /// The judge of the rule that a text spells, or the first fault.
 fn rule_judge(
     alloc: Global,
     rule: &str,
     owns: bool,
     front: Option<&'static str>,
+    nearest: Option<u64>,
 ) -> Result<ProgramJudge, Fault>
-    ensures found { IfOk result (λ program_judge. (tree : RuleTree) × ReadsAs rule.now tree × Serves (by_rule tree owns (option_map (λ text. text.now) front.entry)) program_judge) }
+    ensures found { IfOk result (λ program_judge. (tree : RuleTree) × ReadsAs rule.now tree × Serves (by_rule tree owns (option_map (λ text. text.now) front.entry) nearest) program_judge) }
     ensures fault { IfErr result (λ fault. IsRuleFault rule.now fault ⊎ (fault ≡ Fault.Memory)) }
 {
     let rule = Rule::read(alloc, rule)?;
     let program = program_of(alloc, &rule)?;
-    Ok(ProgramJudge::of_rule(program, rule, owns, front))
+    Ok(ProgramJudge::of_rule(program, rule, owns, front, nearest))
 }

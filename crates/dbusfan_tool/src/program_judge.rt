@@ -7,18 +7,19 @@ ghost use Rattle.message_view.specs.Valid.{Valid};
 ghost use Rattle.summary.specs.Sets.{has_slot, IsSet};
 ghost use Rattle.rule_compile.specs.Compiled.{IsCompiled};
 ghost use Rattle.dbusfan_tool.specs.Compiling.{slot_for};
-ghost use Rattle.filter.specs.FilterTree.{FilterTree};
+ghost use Rattle.filter.specs.Filters.{tree_of};
 ghost use Rattle.filter_compile.specs.Compiled.{AgreeOn, IsCompiled as IsCompiledFilter};
-ghost use Rattle.dbusfan_tool.specs.Judges.{Judge, by_rule, by_filter, by_program, IsTraceIf, IsOutcome};
+ghost use Rattle.dbusfan_tool.specs.Judges.{Judge, by_rule, by_filter, by_program, rule_words, IsTraceIf, IsOutcome};
 ghost use Rattle.dbusfan_tool.specs.Serving.{Serves, TellsOf};
 
 use crate::compiling::SENDER_SLOT;
 use crate::judgement::Judgement;
-use crate::why::Why;
+use crate::why::{Told, Why};
 use crate::wording::Wording;
 use bpf_machine::{Outcome, run};
 use bpf_trace::push_trace;
 use bpf_verify::Verified;
+use filter::Filter;
 use match_rule::Rule;
 use message_view::View;
 use std::alloc::{AllocError, Global};
@@ -44,29 +45,37 @@ struct Ran {
 
 impl ProgramJudge {
     /// The judge of a rule and its program. A text stands before each reason why the rule doesn't match, if reasons are
-    /// wanted.
+    /// wanted; and it is said how many messages are wanted, if only the nearest are.
     pub(crate) fn of_rule(
         program: Verified,
         rule: Rule,
         owns: bool,
         front: Option<&'static str>,
+        nearest: Option<u64>,
     ) -> ProgramJudge
-        ensures { IsCompiled rule (slot_for rule) program → Serves (by_rule rule owns (option_map (λ text. text.now) front.entry)) result }
+        ensures { IsCompiled rule (slot_for rule) program → Serves (by_rule rule owns (option_map (λ text. text.now) front.entry) nearest) result }
     {
         let owned = slots(owns);
         ProgramJudge {
             program,
             slots: owned,
             edition: Edition::Two,
-            words: Wording::OfRule,
-            why: Why::of(rule, owns, front),
+            words: rule_words(nearest),
+            why: Why::of_rule(rule, owns, front),
             traces: false,
         }
     }
 
-    /// The judge of a filter and its program, where all senders own these slots.
-    pub(crate) fn of_filter(program: Verified, slots: Slots) -> ProgramJudge
-        ensures { (tree : FilterTree) (owns : Bool) → IsCompiledFilter tree program → IsSet slots → AgreeOn tree (λ name. owns) slots → Serves (by_filter tree owns) result }
+    /// The judge of a filter and its program, where all senders own these slots. A text stands before each test, if it is to
+    /// be said which tests hold.
+    pub(crate) fn of_filter(
+        program: Verified,
+        slots: Slots,
+        filter: Filter,
+        owns: bool,
+        front: Option<&'static str>,
+    ) -> ProgramJudge
+        ensures { IsCompiledFilter (tree_of filter) program → IsSet slots → AgreeOn (tree_of filter) (λ name. owns) slots → Serves (by_filter (tree_of filter) owns (option_map (λ text. text.now) front.entry)) result }
     {
         let edition = Edition::Two;
         ProgramJudge {
@@ -74,7 +83,7 @@ impl ProgramJudge {
             slots,
             edition,
             words: Wording::OfRule,
-            why: None,
+            why: Why::of_filter(filter, owns, front),
             traces: false,
         }
     }
@@ -100,12 +109,14 @@ impl ProgramJudge {
     {
         let image = Image::new(message, &self.slots, self.edition);
         let ran = self.run(alloc, &image)?;
-        let reasons = self.reasons(alloc, message)?;
+        let told = self.told(alloc, message)?;
         let Ran { outcome, trace } = ran;
+        let Told { reasons, misses } = told;
         Ok(Judgement {
             verdict: outcome.verdict,
             steps: outcome.steps,
             reasons,
+            misses,
             trace,
         })
     }
@@ -124,14 +135,27 @@ impl ProgramJudge {
         Ok(Ran { outcome, trace })
     }
 
-    /// Why a message isn't accepted, where that is wanted.
-    fn reasons(&self, alloc: Global, message: &View<'_>) -> Result<String, AllocError>
-        ensures { IfOk result (λ reasons. (m : Message) → Valid message.now m → TellsOf self.now.why m (string_bytes reasons)) }
+    /// What is told of a message, if anything is wanted.
+    fn told(&self, alloc: Global, message: &View<'_>) -> Result<Told, AllocError>
+        ensures { IfOk result (λ told. (m : Message) → Valid message.now m → TellsOf self.now.why m (string_bytes told.reasons) told.misses) }
     {
         match &self.why {
-            Some(why) => why.reasons(alloc, message),
-            None => Ok(String::new(alloc)),
+            Some(why) => why.told(alloc, message),
+            None => Ok(Told {
+                reasons: String::new(alloc),
+                misses: 0,
+            }),
         }
+    }
+}
+
+/// What is said of messages, of which only this many are wanted if it is said.
+fn rule_words(nearest: Option<u64>) -> Wording
+    ensures { result ≡ rule_words nearest }
+{
+    match nearest {
+        Some(count) => Wording::OfNearest(count),
+        None => Wording::OfRule,
     }
 }
 

@@ -1,7 +1,7 @@
 // How it is said what is found of messages.
 
 ghost use Rattle.std.specs.Prelude.{◌≡◌, ◌⊎◌, ◌++◌, IfOk, OnOk, string_bytes};
-ghost use Rattle.dbusfan_tool.specs.Reports.{no_match_line, outcome_line, trace_lines, said_of_outcome, verdict_line, note_line, count_line, summary_line, last_line, passed_over_line, capture_line, capture_status};
+ghost use Rattle.dbusfan_tool.specs.Reports.{match_line, match_word, outcome_line, trace_lines, said_of_outcome, judged_line, verdict_line, note_line, count_line, summary_line, last_line, passed_over_line, capture_line, capture_status};
 ghost use Rattle.dbusfan_tool.specs.Answer.{failing};
 ghost use Rattle.dbusfan_tool.specs.Views.{said_by};
 
@@ -41,7 +41,7 @@ fn put_trace(text: &mut String, words: Wording, outcome: &Judgement) -> Result<(
     ensures { OnOk result (string_bytes text.new ≡ string_bytes text.old ++ trace_lines words outcome.now) }
 {
     match words {
-        Wording::OfRule => Ok(()),
+        Wording::OfRule | Wording::OfNearest(_) => Ok(()),
         Wording::OfProgram => text.push_str(outcome.trace.as_str()),
     }
 }
@@ -52,16 +52,23 @@ fn put_outcome(text: &mut String, words: Wording, outcome: &Judgement) -> Result
     let verdict = outcome.verdict;
     let steps = outcome.steps;
     match words {
-        Wording::OfRule if verdict == 0 => put_no_match(text, outcome.reasons.as_str()),
-        Wording::OfRule => text.push_str("match\n"),
+        Wording::OfRule | Wording::OfNearest(_) => {
+            put_match(text, verdict != 0, outcome.reasons.as_str())
+        }
         Wording::OfProgram => write!(text, "verdict {verdict} steps {steps}\n"),
     }
 }
 
-fn put_no_match(text: &mut String, reasons: &str) -> Result<(), AllocError>
-    ensures { OnOk result (string_bytes text.new ≡ string_bytes text.old ++ no_match_line reasons.now) }
+fn match_word(holds: bool) -> &'static str
+    ensures { result.now ≡ match_word holds }
 {
-    text.push_str("no match")?;
+    if holds { "match" } else { "no match" }
+}
+
+fn put_match(text: &mut String, holds: bool, reasons: &str) -> Result<(), AllocError>
+    ensures { OnOk result (string_bytes text.new ≡ string_bytes text.old ++ match_line holds reasons.now) }
+{
+    text.push_str(match_word(holds))?;
     text.push_str(reasons)?;
     text.push_str("\n")
 }
@@ -76,12 +83,26 @@ pub(crate) fn put_verdict_line(
     ensures { OnOk result (string_bytes text.new ≡ string_bytes text.old ++ verdict_line words number finding.now) }
 {
     match finding {
-        Finding::Judged(outcome) => {
+        Finding::Judged(outcome) => put_judged_line(text, words, number, outcome),
+        Finding::Cut | Finding::NoMessage(_) => Ok(()),
+    }
+}
+
+fn put_judged_line(
+    text: &mut String,
+    words: Wording,
+    number: u64,
+    outcome: &Judgement,
+) -> Result<(), AllocError>
+    ensures { OnOk result (string_bytes text.new ≡ string_bytes text.old ++ judged_line words number outcome.now) }
+{
+    match words {
+        Wording::OfNearest(_) => Ok(()),
+        Wording::OfRule | Wording::OfProgram => {
             put_trace(text, words, outcome)?;
             write!(text, "{number} ")?;
             put_outcome(text, words, outcome)
         }
-        Finding::Cut | Finding::NoMessage(_) => Ok(()),
     }
 }
 
@@ -126,8 +147,7 @@ fn put_summary(
     ensures { OnOk result (string_bytes text.new ≡ string_bytes text.old ++ summary_line words accepted judged) }
 {
     match words {
-        Wording::OfRule if accepted == 0 => text.push_str("no match\n"),
-        Wording::OfRule => text.push_str("match\n"),
+        Wording::OfRule | Wording::OfNearest(_) => put_match(text, accepted != 0, ""),
         Wording::OfProgram => put_count(text, words, accepted, judged),
     }
 }
@@ -141,7 +161,9 @@ fn put_count(
     ensures { OnOk result (string_bytes text.new ≡ string_bytes text.old ++ count_line words accepted judged) }
 {
     match words {
-        Wording::OfRule => write!(text, "{accepted} of {judged} match\n"),
+        Wording::OfRule | Wording::OfNearest(_) => {
+            write!(text, "{accepted} of {judged} match\n")
+        }
         Wording::OfProgram => write!(text, "{accepted} of {judged} accepted\n"),
     }
 }

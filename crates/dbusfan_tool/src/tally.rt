@@ -8,11 +8,13 @@ ghost use Rattle.command_line.specs.declared.output.Output.{Output};
 ghost use Rattle.dbusfan_tool.specs.Answer.{after_lines, failing};
 ghost use Rattle.dbusfan_tool.specs.Findings.{judged_count, accepted_count};
 ghost use Rattle.dbusfan_tool.specs.Reports.{verdict_line, note_line, said_of_capture};
+ghost use Rattle.dbusfan_tool.specs.Places.{kept_by};
 ghost use Rattle.dbusfan_tool.specs.Tallies.{IsTally};
 ghost use Rattle.dbusfan_tool.specs.Views.{said_by};
 
 use crate::answer::Answer;
 use crate::finding::Finding;
+use crate::nearest::{NearMiss, keep, put_near_lines};
 use crate::report::{capture_status, put_last_line, put_note_line, put_notes, put_verdict_line};
 use crate::wording::Wording;
 use captures::CaptureError;
@@ -32,6 +34,8 @@ pub(crate) struct Tally {
     judged: u64,
     accepted: u64,
     passed_over: u64,
+    /// The messages that a rule misses by the fewest conditions, if they are wanted.
+    nearest: Vec<NearMiss>,
 }
 
 impl Tally {
@@ -49,6 +53,7 @@ impl Tally {
             judged: 0,
             accepted: 0,
             passed_over: 0,
+            nearest: Vec::new(alloc),
         }
     }
 
@@ -60,6 +65,7 @@ impl Tally {
         let number = one_more(self.packets)?;
         self.put_texts(number, &finding)?;
         self.count(&finding)?;
+        self.keep(number, finding)?;
         self.packets = number;
         Ok(())
     }
@@ -88,6 +94,17 @@ impl Tally {
             }
         }
         Ok(())
+    }
+
+    /// Keeps a message that is one of the nearest so far, if they are wanted.
+    fn keep(&mut self, number: u64, finding: Finding) -> Result<(), AllocError>
+        ensures nearest { OnOk result (self.new.nearest.items ≡ kept_by self.old.words self.old.nearest.items number finding) }
+        ensures same { self.new ≡ record self.old { nearest = self.new.nearest } }
+    {
+        match self.words {
+            Wording::OfNearest(count) => keep(&mut self.nearest, count, number, finding),
+            Wording::OfRule | Wording::OfProgram => Ok(()),
+        }
     }
 
     /// Counts a packet of another link type.
@@ -137,9 +154,11 @@ impl Tally {
             judged,
             accepted,
             passed_over,
+            nearest,
             ..
         } = self;
         let mut output = lines;
+        put_near_lines(&mut output, &nearest)?;
         put_last_line(&mut output, words, each, accepted, judged)?;
         let mut errors = notes;
         put_notes(&mut errors, passed_over, fault)?;

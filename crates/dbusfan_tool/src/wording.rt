@@ -4,5 +4,7 @@
 #[derive(Clone, Copy, Debug, PartialEq, Eq)]
 pub(crate) enum Wording {
     OfRule,
+    /// Of a rule, and of a capture's messages only this many that it misses by the fewest conditions.
+    OfNearest(u64),
     OfProgram,
 }

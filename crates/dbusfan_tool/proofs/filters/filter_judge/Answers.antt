@@ -19,4 +19,4 @@ returns-in_err-slots-clause-fault c =
 pub returns-clause-found : goal.returns-clause-found
 returns-clause-found c =
     let owned = c.in_ok-slots.ensures.owned in
-    (tree_of c.in_ok-filter.filter, c.in_ok-filter.ensures.found, c.of_filter.ensures (tree_of c.in_ok-filter.filter) c.args.owns c.in_ok-program.ensures.compiled owned.0 owned.1)
+    (tree_of c.in_ok-filter.filter, c.in_ok-filter.ensures.found, c.of_filter.ensures c.in_ok-program.ensures.compiled owned.0 owned.1)

@@ -1,4 +1,5 @@
-use Rattle.std.proofs.Common.{ℕ, List, [], Option, inl, inr, refl, ap, subst}
+use Rattle.std.proofs.Common.{ℕ, ◌||◌, List, [], Option, inl, inr, refl, ap, subst}
+use Rattle.std.specs.Prelude.{is_some}
 use Rattle.command_line.specs.CommandRow.{to_match}
 use Rattle.command_line.specs.Files.{MadeReads}
 use Rattle.command_line.specs.Output.{none}
@@ -13,11 +14,11 @@ use Rattle.dbusfan_tool.proofs.matching.answer.Goals as goal
 pub returns-in-Ok : goal.returns-in-Ok
 returns-in-Ok g c =
     let rule = c.in-Ok.ensures.found in
-    let serves = subst (λ (front : Option (List ℕ)). Serves (by_rule rule.0 c.args.owns front) c.in-Ok.program_judge) c.front_of.ensures rule.2 in
-    let judge = by_rule rule.0 c.args.owns (front_of c.args.why c.args.each) in
+    let serves = subst (λ (front : Option (List ℕ)). Serves (by_rule rule.0 c.args.owns front c.args.nearest) c.in-Ok.program_judge) c.rule_front-front.ensures rule.2 in
+    let judge = by_rule rule.0 c.args.owns (front_of (c.args.why || is_some c.args.nearest) c.args.each) c.args.nearest in
     let said = c.answer.ensures judge serves in
     let file_says : Said → Type 0 = SaysOfFile (λ content. g.F.Files.gives c.args.files.now c.args.file.now content c.answer.new.files) judge c.args.each in
-    let row_says : Said → Type 0 = Tool (MadeReads g.F.Files.gives c.args.files.now c.answer.new.files) (to_match c.args.rule.now c.args.file.now c.args.owns c.args.each c.args.why) in
+    let row_says : Said → Type 0 = Tool (MadeReads g.F.Files.gives c.args.files.now c.answer.new.files) (to_match c.args.rule.now c.args.file.now c.args.owns c.args.each c.args.why c.args.nearest) in
     (said.0, said.1, says_too file_says row_says said.0 c.answer.result (λ said says. judged rule.1 says) said.2)
 
 pub returns-in-Err : goal.returns-in-Err

@@ -1,6 +1,0 @@
-use Rattle.std.proofs.Common.{◌≡◌, ℕ, nat_lt}
-use Rattle.summary.specs.Sets.{has_slot, IsSet}
-use Rattle.dbusfan_tool.proofs.filters.first_slots.Given as goal
-
-abbrev pub invariant-loop-slot : goal.invariant-loop-slot
-invariant-loop-slot l = IsSet l.slots × ((other : ℕ) → has_slot l.slots other ≡ nat_lt other l.slot)
