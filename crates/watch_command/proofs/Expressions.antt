@@ -37,12 +37,12 @@ agrees : (f : FilterTree) (owned : List ℕ → Bool) (slots : List ℕ) → nam
 agrees f owned slots none = λ name h. let e : has_name [] name ≡ true = subst (λ (names : List (List ℕ)). has_name names name ≡ true) none h in cc
 
 -- the program of an expression accepts the messages of which the expression holds
-pub accepted : (text : List ℕ) (program : List Ins) (it : IsExpression text program) (owners : Ownerships) (bytes : List ℕ) (m : Message) (slots : List ℕ) (v n : ℕ) (r : Bool) → Valid bytes m → IsSet slots → Ends program (image_bytes Two m slots) v n → r ≡ not (v == 0) → ((text : List ℕ) (filter other : FilterTree) → ReadsAs text filter → ReadsAs text other → filter ≡ other) → (IsTrue r ↔ TakesExpression owners m text)
-accepted text program it owners bytes m slots v n r valid set ends is one =
+pub accepted : (text : List ℕ) (f : FilterTree) (program : List Ins) (it : IsExpression text f program) (owners : Ownerships) (bytes : List ℕ) (m : Message) (slots : List ℕ) (v n : ℕ) (r : Bool) → Valid bytes m → IsSet slots → Ends program (image_bytes Two m slots) v n → r ≡ not (v == 0) → ((text : List ℕ) (filter other : FilterTree) → ReadsAs text filter → ReadsAs text other → filter ≡ other) → (IsTrue r ↔ TakesExpression owners m text)
+accepted text f program it owners bytes m slots v n r valid set ends is one =
     let owned : List ℕ → Bool = λ name. owns owners (sender_of m) name in
-    let decides = it.compiled bytes m slots owned v n valid set (agrees it.filter owned slots it.nameless) ends in (
-      λ e. (it.filter, it.reads, decides.0 (positive v (sym is ∙ e))),
-      λ (takes : TakesExpression owners m text). is ∙ nonzero v (decides.1 (subst (λ (f : FilterTree). FilterHolds f m owned) (one text takes.0 it.filter takes.1 it.reads) takes.2)),
+    let decides = it.compiled bytes m slots owned v n valid set (agrees f owned slots it.nameless) ends in (
+      λ e. (f, it.reads, decides.0 (positive v (sym is ∙ e))),
+      λ (takes : TakesExpression owners m text). is ∙ nonzero v (decides.1 (subst (λ (g : FilterTree). FilterHolds g m owned) (one text takes.0 f takes.1 it.reads) takes.2)),
     )
 
 -- where there is no first name, there is none

@@ -7,8 +7,7 @@ use Rattle.filter_compile.specs.Compiled.{IsCompiled}
 use Rattle.filter_compile.specs.Names.{names_of}
 
 -- the text reads as a filter that asks who owns no name, and the program is the filter's
-pub record IsExpression (text : List ℕ) (program : List Ins) : Type 0 where
-  pub filter : FilterTree
+pub record IsExpression (text : List ℕ) (filter : FilterTree) (program : List Ins) : Type 0 where
   pub reads : ReadsAs text filter
   pub compiled : IsCompiled filter program
   pub nameless : names_of filter ≡ []

@@ -2,6 +2,7 @@ pub mod Sayings
 pub mod Options
 pub mod Owners
 pub mod Showing
+pub mod Choosing
 pub mod Counts
 pub mod Stamp
 pub mod Colours

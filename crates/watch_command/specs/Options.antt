@@ -96,11 +96,15 @@ wants_all said = has Read said || has Program said || has Filter said || is_summ
 abbrev pub address_count : List Saying → ℕ
 address_count said = if has Read said then 0 else 1
 
--- why a rule doesn't hold is said of one rule, and of lines for people
+-- how many rules there are where it is said why messages aren't shown: one, or none beside a filter expression
+abbrev pub explained_rules : List Saying → ℕ
+explained_rules said = if has Filter said then 0 else 1
+
+-- why a rule or a filter expression doesn't hold is said of one rule, or of the expression alone, and of lines for people
 abbrev pub fits_why : List Saying → Bool
 fits_why said =
     not (has Why said)
-    || (excludes Why (Program ∷ Filter ∷ Invert ∷ Calls ∷ Summary ∷ Top ∷ Rules ∷ Of ∷ Hex ∷ Json ∷ Write ∷ []) said && length (names said) == address_count said + 1)
+    || (excludes Why (Program ∷ Attach ∷ Invert ∷ Calls ∷ Summary ∷ Top ∷ Rules ∷ Of ∷ Hex ∷ Json ∷ Write ∷ []) said && length (names said) == address_count said + explained_rules said)
 
 -- an address where there is no capture, and a rule at least where nothing else says what is wanted; none where something
 -- else says all

@@ -15,3 +15,8 @@ is_ownership owner name it = bytes_eq it.1 owner && bytes_eq it.0 name
 abbrev pub owns : Ownerships → Option (List ℕ) → List ℕ → Bool
 owns owners None name = false
 owns owners (Some sender) name = list_any (is_ownership sender name) owners
+
+-- whether it owns the name that is asked for, if one is
+abbrev pub owns_asked : Ownerships → Option (List ℕ) → Option (List ℕ) → Bool
+owns_asked owners sender None = false
+owns_asked owners sender (Some name) = owns owners sender name

@@ -43,6 +43,18 @@ pub(crate) fn ask<S: Read + Write + Drop>(
     Ok(owners)
 }
 
+/// Whether the bus compares the destination of a monitor's rule with all names of a message's recipient. dbus-broker doesn't compare
+/// it at all; unlike the others it doesn't tell the rules of connections either.
+pub(crate) fn compares_destinations<S: Read + Write + Drop>(
+    client: &mut Client<S>,
+) -> Result<bool, Fault> {
+    match client.match_rules(BUS_NAME) {
+        Ok(_) => Ok(true),
+        Err(ClientError::Answered(_)) => Ok(false),
+        Err(error) => Err(Fault::from(error)),
+    }
+}
+
 /// Has the bus run a program or a filter expression.
 fn attach<S: Read + Write + Drop>(
     client: &mut Client<S>,

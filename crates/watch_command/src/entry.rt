@@ -1,6 +1,6 @@
 // The command.
 
-use crate::asking::ask;
+use crate::asking::{ask, compares_destinations};
 use crate::calls::Calls;
 use crate::connection_rules::connection_rules;
 use crate::counts::Counts;
@@ -118,6 +118,9 @@ where
     if let Some(name) = options.text_of(Key::Of) {
         let is_monitor = options.has(Key::Monitor);
         plan.counted = connection_rules(rt.alloc(), &mut client, name, is_monitor, err)?;
+    }
+    if plan.criteria.leaves_destinations() && !compares_destinations(&mut client)? {
+        plan.criteria.compare_destinations();
     }
     let owners = ask(rt.alloc(), &mut client, options, &plan)?;
     let sink = open_sink(rt, options, look, &mut plan, out)?;
@@ -305,5 +308,6 @@ where
 {
     let link = connect(rt, addresses).ok_or(Fault::Socket)?;
     let stream = Timed::new(rt, link).map_err(|_| Fault::Socket)?;
-    Ok(Client::open(rt.alloc(), stream)?)
+    let transport = stream.transport();
+    Ok(Client::open(rt.alloc(), stream, transport)?)
 }

@@ -8,6 +8,7 @@ use bpf_machine::run;
 use bpf_verify::Verified;
 use filter::{FaultAt, Filter, FilterError, one_reading};
 use filter_compile::{CompileError, Names, compile};
+use filter_reasons::{near_tests, push_near_tests};
 use message_view::View;
 use std::alloc::{AllocError, Global};
 use std::error::Error;
@@ -50,30 +51,32 @@ pub(crate) enum ExpressionError {
     NoMemory,
 }
 
-/// A filter expression that asks who owns no name, with its program for images of edition 2. Contracts see its text.
+/// A filter expression that asks who owns no name, with its filter and its program for images of edition 2. Contracts see its text.
 #[derive(Drop)]
 pub(crate) struct Expression {
     text: String,
+    filter: Filter,
     program: Verified,
 }
 
 impl Model for Expression {
     ghost use Rattle.std.specs.Prelude.{ℕ, List, string_bytes};
+    ghost use Rattle.filter.specs.Filters.{tree_of};
     ghost use Rattle.watch_command.specs.Expressions.{IsExpression};
 
     ghost Value = { List ℕ };
 
     ghost view = { λ e. string_bytes e.text };
 
-    ghost invariant = { λ e. IsExpression (string_bytes e.text) e.program };
+    ghost invariant = { λ e. IsExpression (string_bytes e.text) (tree_of e.filter) e.program };
 }
 
 impl Expression {
-    ghost use Rattle.std.specs.Prelude.{◌≡◌, ◌↔◌, IsTrue, IfOk, IfErr};
+    ghost use Rattle.std.specs.Prelude.{◌≡◌, ◌↔◌, IsTrue, IfOk, IfErr, string_bytes};
     ghost use Rattle.message_view.specs.Message.{Message};
     ghost use Rattle.message_view.specs.Valid.{Valid};
     ghost use Rattle.watch_command.specs.Owners.{Ownerships};
-    ghost use Rattle.watch_command.specs.Showing.{TakesExpression};
+    ghost use Rattle.watch_command.specs.Showing.{TakesExpression, IsNearExpression, TellsTests};
     ghost use Rattle.watch_command.specs.FilterFaults.{IsRefusal};
 
     /// Reads and compiles an expression.
@@ -92,7 +95,11 @@ impl Expression {
             return Err(ExpressionError::Filter(FilterFault::SenderName(name)));
         }
         let text = String::from_str(alloc, text)?;
-        Ok(Expression { text, program })
+        Ok(Expression {
+            text,
+            filter,
+            program,
+        })
     }
 
     /// Whether the expression holds of a message. Who owns which names is the same to it.
@@ -103,6 +110,28 @@ impl Expression {
         let owned = Slots::empty();
         let image = Image::new(view, &owned, Edition::Two);
         run(&self.program, &image).verdict != 0
+    }
+
+    /// Whether the expression doesn't hold of a message, but would if one of its tests alone came out the other way.
+    pub(crate) fn is_near(&self, alloc: Global, view: &View<'_>) -> Result<bool, ExpressionError>
+        ensures { IfOk result (λ near. (m : Message) → Valid view.now m → IsNearExpression m self.now near) }
+    {
+        let near = near_tests(alloc, &self.filter, view, false)?;
+        Ok(!near.is_empty())
+    }
+
+    /// These tests, in lines with a front before each.
+    pub(crate) fn reasons(
+        &self,
+        alloc: Global,
+        front: &str,
+        view: &View<'_>,
+    ) -> Result<String, ExpressionError>
+        ensures { IfOk result (λ text. (m : Message) → Valid view.now m → TellsTests front.now m self.now (string_bytes text)) }
+    {
+        let mut text = String::new(alloc);
+        push_near_tests(alloc, &mut text, front, &self.filter, view, false)?;
+        Ok(text)
     }
 }
 

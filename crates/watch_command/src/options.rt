@@ -23,12 +23,12 @@ impl<'a> Model for Options<'a> {
 }
 
 impl<'a> Options<'a> {
-    ghost use Rattle.std.specs.Prelude.{◌≡◌, ◌<◌, List, true, false, Some, None, IfOk, IfSome, IfNone, IsSomeAnd, drop, option_map, option_and_then, slice_get, if◌then◌else◌};
+    ghost use Rattle.std.specs.Prelude.{◌≡◌, ◌<◌, ◌≤◌, List, true, false, Some, None, IfOk, IfSome, IfNone, IsSomeAnd, drop, option_map, option_and_then, slice_get, if◌then◌else◌};
     ghost use Rattle.std.specs.List.{list_any};
     ghost use Rattle.std.specs.Str.Parse.{digits_value};
     ghost use Rattle.watch_command.specs.declared.words.Key.TheVariants.{Read};
     ghost use Rattle.watch_command.specs.Sayings.{Saying, sayings_in, texts};
-    ghost use Rattle.watch_command.specs.Options.{has, is_said, word_of, names, excludes, needs, needs_any, fits_source, fits_form, fits_calls, fits_why, is_monitor, is_summary, wants_all, excludes_forms, excludes_lines, address_count, has_names, fits, has_value, edition_of};
+    ghost use Rattle.watch_command.specs.Options.{has, is_said, word_of, names, excludes, needs, needs_any, fits_source, fits_form, fits_calls, fits_why, explained_rules, is_monitor, is_summary, wants_all, excludes_forms, excludes_lines, address_count, has_names, fits, has_value, edition_of};
 
     /// What some words ask for, if they are a row of the command line: `ADDRESS [RULE ..]` or `--read FILE [RULE ..]`, and
     /// options that go together.
@@ -210,13 +210,14 @@ impl<'a> Options<'a> {
             )
     }
 
-    /// Whether the options, and the number of rules, go with one that has it said why a rule doesn't hold.
+    /// Whether the options, and the number of rules, go with one that has it said why a rule or a filter expression doesn't
+    /// hold.
     fn fits_why(&self) -> bool
         ensures { result ≡ fits_why self.now }
     {
         let others = [
             Key::Program,
-            Key::Filter,
+            Key::Attach,
             Key::Invert,
             Key::Calls,
             Key::Summary,
@@ -229,7 +230,15 @@ impl<'a> Options<'a> {
         ];
         !self.has(Key::Why)
             || self.excludes(Key::Why, &others)
-                && name_count(&self.words) == self.address_count() + 1
+                && name_count(&self.words) == self.address_count() + self.explained_rules()
+    }
+
+    /// How many rules there are where it is said why messages aren't shown: one, or none beside a filter expression.
+    fn explained_rules(&self) -> usize
+        ensures value { result ≡ explained_rules self.now }
+        ensures few { result ≤ 1 }
+    {
+        if self.has(Key::Filter) { 0 } else { 1 }
     }
 
     /// Whether no option says which messages are shown, or how, where they are counted.

@@ -5,9 +5,10 @@ ghost use Rattle.match_rule.specs.RuleTree.{RuleTree};
 ghost use Rattle.match_rule.specs.Grammar.{ReadsAs};
 ghost use Rattle.watch_command.specs.Options.{word_of};
 ghost use Rattle.watch_command.specs.Showing.{expression_of};
+ghost use Rattle.watch_command.specs.Choosing.{choice_by, destinations_by};
 
 use crate::counts::CountedRule;
-use crate::criteria::{Acceptor, Criteria, Program};
+use crate::criteria::{Acceptor, Choice, Criteria, Destinations, Program};
 use crate::error::Fault;
 use crate::expression::Expression;
 use crate::options::Options;
@@ -51,6 +52,7 @@ impl<'a> Plan<'a> {
     ghost use Rattle.watch_command.specs.declared.words.Key.TheVariants.{Attach, Filter};
     ghost use Rattle.watch_command.specs.Options.{has, word_of};
     ghost use Rattle.watch_command.specs.Showing.{expression_of};
+    ghost use Rattle.watch_command.specs.Choosing.{choice_by, destinations_by};
 
     /// Reads what the options name.
     pub(crate) fn read<F: Files>(
@@ -59,15 +61,18 @@ impl<'a> Plan<'a> {
         files: &mut F,
     ) -> Result<Plan<'a>, Fault>
         // The filter expression that is said is the one that messages have to pass, unless the bus runs it.
-        ensures { IfOk result (λ plan. expression_of plan.criteria.acceptor ≡ (if has Attach options.now then None else word_of Filter options.now)) }
+        ensures expression { IfOk result (λ plan. expression_of plan.criteria.acceptor ≡ (if has Attach options.now then None else word_of Filter options.now)) }
+        ensures choice { IfOk result (λ plan. plan.criteria.choice ≡ choice_by options.now) }
+        ensures destinations { IfOk result (λ plan. plan.criteria.destinations ≡ destinations_by options.now) }
     {
         let is_monitor = options.is_monitor();
-        let is_inverted = options.has(Key::Invert) || options.has(Key::Why);
+        let choice = choice_by(options);
+        let destinations = destinations_by(options);
         let mut rules = Vec::new(alloc);
         let mut asked = Vec::new(alloc);
         for text in options.rules(alloc)? {
             rules.push(rule_of(alloc, text, is_monitor)?)?;
-            if !is_inverted {
+            if choice == Choice::Selected {
                 asked.push(text)?;
             }
         }
@@ -86,8 +91,9 @@ impl<'a> Plan<'a> {
         Ok(Plan {
             criteria: Criteria {
                 rules,
+                destinations,
                 acceptor,
-                is_inverted,
+                choice,
             },
             counted,
             asked,
@@ -109,6 +115,31 @@ impl<'a> Plan<'a> {
             }
         }
         Ok(names)
+    }
+}
+
+/// Which messages are shown.
+fn choice_by(options: &Options<'_>) -> Choice
+    ensures { result ≡ choice_by options.now }
+{
+    if options.has(Key::Why) {
+        Choice::NearMisses
+    } else if options.has(Key::Invert) {
+        Choice::Others
+    } else {
+        Choice::Selected
+    }
+}
+
+/// Who compares destinations: the bus, if it is asked for the messages of these rules as a monitor's.
+fn destinations_by(options: &Options<'_>) -> Destinations
+    ensures { result ≡ destinations_by options.now }
+{
+    let is_asked = options.is_monitor() && !options.has(Key::Read);
+    if is_asked && choice_by(options) == Choice::Selected {
+        Destinations::Decided
+    } else {
+        Destinations::Compared
     }
 }
 

@@ -17,7 +17,7 @@ pub(crate) struct Selection<'o, 'e, 'f, O, F, E> {
     err: &'e mut Output<E>,
     criteria: &'f Criteria,
     owners: Owners,
-    /// Whether it is said why the rule doesn't hold of a message.
+    /// Whether it is said why the rule or the filter expression doesn't hold of a message.
     tells_why: bool,
     /// How many messages may still be shown.
     left: u64,
@@ -126,7 +126,7 @@ impl<'o, 'e, 'f, O: Writer, F: Writer, E: Writer> Selection<'o, 'e, 'f, O, F, E>
     fn show(&mut self, alloc: Global, time: u64, view: &View<'_>) -> Result<(), Fault> {
         self.tell_late(alloc, time)?;
         let owners = &self.owners;
-        if !self.sink.takes_any(view) && !self.criteria.takes(view, owners) {
+        if !self.sink.takes_any(view) && !self.criteria.takes(alloc, view, owners)? {
             return Ok(());
         }
         let shown = self.sink.take(alloc, &Seen { view, time, owners })?;

@@ -9,7 +9,6 @@ use Rattle.watch_command.proofs.expression.Expression.read.Goals as goal
 pub invariant_of-result : goal.invariant_of-result
 invariant_of-result c =
     let f : FilterTree = tree_of c.in_ok-filter.filter in record {
-      filter = f;
       reads = subst (λ (text : List ℕ). ReadsAs text f) (sym c.in_ok-text.ensures.ok) c.in_ok-filter.ensures.found;
       compiled = c.in_ok-program.ensures.compiled;
       nameless = nameless (names_of f) (sym c.in_ok-name.ensures ∙ ap (option_map string_bytes) c.in_default.is);
