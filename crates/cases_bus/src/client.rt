@@ -112,8 +112,8 @@ impl<B: BusBrand> Client<B> {
             Some(session) => {
                 let outcome = session.end_of_input();
                 let mut lists = RouteLists::new();
-                let rest = session.end(place.rt, place.alloc, place.bus, &mut lists);
-                other_end(place.alloc, outcome, rest.is_some(), wanted)
+                let (told, rest) = session.end(place.rt, place.alloc, place.bus, &mut lists);
+                other_end(place.alloc, outcome.and(told), rest.is_some(), wanted)
             }
             None => Err(LineError::Unreadable),
         }

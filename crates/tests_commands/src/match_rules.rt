@@ -1,7 +1,7 @@
 // The match rules of another connection: the words that ask for them, and what a bus answers.
 
 use crate::scripts::{Script, put_answer};
-use bus_client::{Client, ClientError};
+use bus_client::{Client, ClientError, Transport};
 use std::alloc::Global;
 use std::process::Abort;
 use watch_command::{Key, Options};
@@ -15,7 +15,7 @@ x\0\0\0\0\0\0\0\x04\0\0\0:1.0\0\0\0\0B\0\0\0\x19\0\0\0sender='org.x.Y',arg0='q'\
 
 /// A client that a bus has let in, which then says this.
 fn client_before<'a, R: Abort>(rt: &R, alloc: Global, says: &'a [u8]) -> Client<Script<'a>> {
-    match Client::open(alloc, Script::new(alloc, says, 4096)) {
+    match Client::open(alloc, Script::new(alloc, says, 4096), Transport::Unix) {
         Ok(client) => client,
         Err(_) => panic!(rt; "it wasn't let in"),
     }
@@ -23,7 +23,7 @@ fn client_before<'a, R: Abort>(rt: &R, alloc: Global, says: &'a [u8]) -> Client<
 
 /// What a bus says to a client that comes in, and then this.
 fn bus_before<R: Abort>(rt: &R, alloc: Global, answer: &[u8]) -> Vec<u8> {
-    let mut says = Vec::from_slice(alloc, b"OK 0123\r\n").expect(rt, "memory");
+    let mut says = Vec::from_slice(alloc, b"OK 0123\r\nERROR\r\n").expect(rt, "memory");
     put_answer(rt, alloc, &mut says, 1, None);
     says.extend_from_slice(answer).expect(rt, "memory");
     says

@@ -37,6 +37,7 @@ fn rules(rt: HostRuntime) {
     expect_rules(&rt, alloc, &["session", "--filter", "signal"], &[]);
     expect_rules(&rt, alloc, &["session", "a", "--filter", "-"], &["a"]);
     expect_rules(&rt, alloc, &["session", "a", "--why"], &["a"]);
+    expect_rules(&rt, alloc, &["session", "--why", "--filter", "e"], &[]);
 }
 
 #[test]
@@ -141,6 +142,9 @@ fn no_command(rt: HostRuntime) {
         "session a --filter e --attach",
         "session --filter e --attach --monitor",
         "session a --why --filter e",
+        "session --why --filter e --invert",
+        "session --why --filter e --attach",
+        "session --why --monitor",
         "session --top --calls",
         "session --top --json",
         "--read f --top",
