@@ -1,7 +1,7 @@
 # Completion of dbusfan's words in bash.
 _dbusfan_options() {
     case $1 in
-    match) echo --filter --owns --each --why --help ;;
+    match) echo --filter --owns --each --why --nearest --help ;;
     compile) echo --filter --help ;;
     run) echo --edition --each --trace --help ;;
     asm | check) echo --help ;;
