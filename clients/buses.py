@@ -17,9 +17,17 @@ def program():
     return os.environ.get("DBUSFAN") or os.path.join(HERE, "..", "crates", "dbusfan_serve", "out", "dbusfan_serve")
 
 
+def compiled_floor(folder):
+    """The floor's program, compiled into a folder: a bus that does only what a broadcast needs. See bench/README.md."""
+    floor = os.path.join(folder, "floor")
+    subprocess.run(["cc", "-O2", "-Wall", "-o", floor, os.path.join(HERE, "..", "bench", "floor.c")], check=True)
+    return floor
+
+
 class Bus:
-    """A bus in a process of its own, on a Unix socket or a TCP port (dbus-broker on a Unix socket alone). Ours is the program at a
-    path, if one is given, and has a worker for each processor that it may run on when it begins, or as many as are asked for."""
+    """A bus in a process of its own, on a Unix socket or a TCP port (dbus-broker and the floor on a Unix socket alone). Ours is the
+    program at a path, if one is given, and has a worker for each processor that it may run on when it begins, or as many as are asked
+    for. The floor is always at a path."""
 
     def __init__(self, kind, transport="unix", limit=None, workers=None, options=None, home=None, path=None):
         self.kind = kind
@@ -38,6 +46,8 @@ class Bus:
         environment = {**os.environ, "HOME": home} if home else None
         if kind == "dbusfan":
             words = [path or program(), "--listen", wanted, "--guid", GUID, *options]
+        elif kind == "floor":
+            words = [path, socket]
         else:
             words = ["dbus-daemon", f"--config-file={self.config(wanted)}", "--nofork", "--print-address"]
         if limit:

@@ -2,7 +2,7 @@
 import collections
 import re
 
-CAUSE = r"Slow|Monitor|NoMemory|Auth|NoHello|Message \w+|silence|hello|newcomers|unfinished|the bus ends"
+CAUSE = r"Slow|Monitor|NoMemory|Auth|NoHello \(\w+(?: \w+)?\)|Message \w+|silence|hello|newcomers|unfinished|the bus ends"
 LINE = re.compile(rf"dbusfan: (?:(?P<name>:1\.\d+) (?P<passing>came|went)|(?P<ended>:1\.\d+|a newcomer) was ended: (?P<cause>{CAUSE})"
                   r"|(?P<other>no descriptor is left, newcomers are closed|\d+ lines are missing here))")
 NEWCOMER = "a newcomer"

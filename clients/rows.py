@@ -235,16 +235,20 @@ MONITORING = "org.freedesktop.DBus.Monitoring"
 STATS = "org.freedesktop.DBus.Debug.Stats"
 
 
-def met(one):
-    """The member or the error of each message that came, until none comes for a moment."""
+def received(one):
+    """Each message that came, until none comes for a moment."""
     one.timeout, found = 0.5, []
     try:
         while True:
-            got = one.receive()
-            found.append(got.member or got.error_name or ("answer", got.reply_serial))
+            found.append(one.receive())
     except TimeoutError:
         one.timeout = 10
         return found
+
+
+def met(one):
+    """The member or the error of each message that came, until none comes for a moment."""
+    return [got.member or got.error_name or ("answer", got.reply_serial) for got in received(one)]
 
 
 @row("wire", ["InvalidArgs", "MatchRuleInvalid", "UnknownInterface", (), ["NameAcquired", "NameLost", "NameLost"], False, "NameHasNoOwner"])
@@ -298,6 +302,38 @@ def monitors_by_their_rules(bus):
     two.signal("/a", "a.b", "Changed")
     two.send(wire.SIGNAL, 0, path="/a", interface="a.b", member="Changed", destination=three.name)
     return seen + [met(by_both)]
+
+
+@row("wire", [True, ["NameLost", "NameOwnerChanged"] * 2, True])
+def names_of_a_new_monitor_are_lost_before_that_is_announced(bus):
+    seer, one = bus.connect(), bus.connect()
+    one.call("RequestName", "su", ("com.example.Watching", 0))
+    seer.call("BecomeMonitor", "asu", ([], 0), interface=MONITORING)
+    met(seer)
+    one.call("BecomeMonitor", "asu", ([], 0), interface=MONITORING)
+    told = [got for got in received(seer) if got.kind == wire.SIGNAL]
+    lost, changed = [[got.body[0] for got in told[at::2]] for at in (0, 1)]
+    own = [got.body[0] for got in received(one) if got.member == "NameLost"]
+    return [lost == changed, [got.member for got in told], sorted(own) == sorted(("com.example.Watching", one.name))]
+
+
+@row("wire", [["Named", "Unique", "Other", "Released"], ["Named", "Unique", "Other", "NameLost", "Unowned"]])
+def monitors_by_destination(bus):
+    by_unique, by_name, two, three = (bus.connect() for _ in range(4))
+    name = "com.example.Recipient"
+    for own in (name, "com.example.Other"):
+        two.call("RequestName", "su", (own, 0))
+    for one, rule in ((by_unique, f"destination='{two.name}',interface='a.b'"), (by_name, f"destination='{name}',type='signal'")):
+        one.call("BecomeMonitor", "asu", ([rule], 0), interface=MONITORING)
+        met(one)
+    tell = lambda member, to: three.send(wire.SIGNAL, 0, path="/a", interface="a.b", member=member, destination=to)
+    for member, to in (("Named", name), ("Unique", two.name), ("Other", "com.example.Other"), ("Elsewhere", three.name)):
+        tell(member, to)
+    three.call("Ping", interface="org.freedesktop.DBus.Peer")
+    two.call("ReleaseName", "s", (name,))
+    tell("Released", two.name)
+    tell("Unowned", name)
+    return [met(by_unique), met(by_name)]
 
 
 @row("wire", ["closed", True])
@@ -425,6 +461,11 @@ def a_signal_of_many_types(bus):
 # dbus-monitor
 
 
+def written_to(file):
+    """All that programs have written to a file. Its place is theirs too, so it isn't moved."""
+    return os.pread(file.fileno(), os.fstat(file.fileno()).st_size, 0)
+
+
 class Watcher:
     """A program that prints what goes over the bus, until it is stopped."""
 
@@ -433,8 +474,7 @@ class Watcher:
         self.process = subprocess.Popen(words, stdout=self.file, stderr=subprocess.STDOUT)
 
     def text(self):
-        self.file.seek(0)
-        return self.file.read().decode(errors="replace")
+        return written_to(self.file).decode(errors="replace")
 
     def has(self, text, seconds=10):
         return wait_until(lambda: text in self.text(), seconds)
@@ -577,7 +617,7 @@ def captures_the_bus(bus):
         capture = subprocess.Popen(["busctl", f"--address={bus.address}", "capture"], stdout=file, stderr=subprocess.DEVNULL)
         try:
             one = bus.connect()
-            read = lambda: (file.seek(0), file.read())[1]
+            read = lambda: written_to(file)
             shown = wait_until(lambda: one.signal("/a", "a.b", "Captured", "s", ("text",)) and b"Captured" in read())
             return [shown, read()[:4] in (b"\xd4\xc3\xb2\xa1", b"\n\r\r\n")]
         finally:

@@ -6,8 +6,8 @@ SERVICES = "our bus starts no services"
 POLICIES = "our bus has no policies"
 USERS = "our bus lets in its own user alone"
 CONFIGURED = "the part configures a limit of dbus-daemon, whose configuration our bus doesn't read"
-EAVESDROPPING = "a rule of AddMatch meets broadcasts alone on our bus, which shows monitors alone what is addressed to others"
-DESTINATIONS = "a monitor's rule compares the destination as it is written; dbus-daemon compares all names of the recipient"
+EAVESDROPPING = ("a rule of AddMatch meets broadcasts alone on our bus, which shows monitors alone what is addressed to others; "
+                 "dbus-broker refuses the key eavesdrop")
 NUMBERS = "the part wants the unique name :1.1 of the second connection of a bus, which ours gives the first"
 
 LEFT_OUT = {"test-sd-activation": f"{SERVICES}, which each part is about"}
@@ -35,8 +35,6 @@ EXPECTED = {
         "/eavedrop/match_keyword/unicast_to_sender": EAVESDROPPING,
     },
     "test-monitor": {
-        "/monitor/well-known-destination": DESTINATIONS,
-        "/monitor/unique-destination": DESTINATIONS,
         "/monitor/forbidden-broadcast": POLICIES,
         "/monitor/forbidden": POLICIES,
         "/monitor/forbidden-method": POLICIES,
@@ -55,7 +53,6 @@ EXPECTED = {
         "/gdbus/proxy/async": PROCESSES,
         "/gdbus/proxy/no-match-rule": PROCESSES,
     },
-    "gapplication": {"/gapplication/dbus/command-line": "a timer of the part fails it at times, on dbus-daemon too"},
     "gdbus-names": {"/gdbus/bus-watch-name-auto-start-service-exist": SERVICES},
     "test-client.py": {"TestDBusBindings.test_invalid_fd_index": DESCRIPTORS},
     "test-p2p.py": {"TestDBusBindings.testUnixFd": DESCRIPTORS},
@@ -65,6 +62,8 @@ EXPECTED = {
 WAITS = {
     "test-dbus-daemon": ["/no-reply/timeout", "/limits/max-replies-per-connection", "/activation/forking",
                          "/system-policy/allow-signals"],
-    "test-monitor": ["/monitor/forbidden-reply", "/monitor/well-known-destination", "/monitor/unique-destination",
-                     "/monitor/activation"],
+    "test-monitor": ["/monitor/forbidden-reply", "/monitor/activation"],
 }
+
+# A part that leaves a timer behind, which fails one of those after it on a slow machine, on dbus-daemon too: it has a run of its own.
+APART = {"gapplication": ["/gapplication/no-replace"]}

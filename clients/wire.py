@@ -193,9 +193,10 @@ def open_socket(address):
 
 
 class Connection:
-    """A connection to a bus. Unless it is told otherwise it authenticates and says Hello."""
+    """A connection to a bus. Unless it is told otherwise it authenticates and says Hello. It passes file descriptors only if
+    it is asked to."""
 
-    def __init__(self, address, begin=True, hello=True, timeout=10):
+    def __init__(self, address, begin=True, hello=True, timeout=10, descriptors=False):
         self.link = open_socket(address)
         self.timeout = timeout
         self.serial = 0
@@ -203,18 +204,21 @@ class Connection:
         self.waiting = []
         self.name = None
         if begin:
-            self.authenticate()
+            self.authenticate(descriptors)
             if hello:
                 self.name = self.call("Hello")[0]
 
     def fileno(self):
         return self.link.fileno()
 
-    def authenticate(self):
+    def authenticate(self, descriptors=False):
         self.link.sendall(b"\0AUTH EXTERNAL " + str(os.getuid()).encode().hex().encode() + b"\r\n")
         answer = self.line()
         if not answer.startswith(b"OK "):
             raise DBusError("authentication", answer.decode())
+        if descriptors:
+            self.link.sendall(b"NEGOTIATE_UNIX_FD\r\n")
+            self.line()
         self.link.sendall(b"BEGIN\r\n")
 
     def line(self):
@@ -242,6 +246,11 @@ class Connection:
         serial = self.next_serial()
         self.link.sendall(message(kind, serial, flags, signature, body, **fields))
         return serial
+
+    def send_descriptors(self, descriptors, kind, signature, body, **fields):
+        """Sends a message with file descriptors."""
+        data = message(kind, self.next_serial(), 0, signature, body, unix_fds=len(descriptors), **fields)
+        socket.send_fds(self.link, [data], descriptors)
 
     def signal(self, path="/a", interface="a.b", member="c", signature="", body=(), destination=None):
         return self.send(SIGNAL, 1, signature, body, path=path, interface=interface, member=member, destination=destination)
