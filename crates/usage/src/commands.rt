@@ -267,7 +267,7 @@ pub(crate) static COMMANDS: [CommandHelp; 7] = [
                 name: "top",
                 form: Form::Flag,
                 is_required: false,
-                text: "Shows this table on a terminal, the most messages first, anew each second, until --seconds or Ctrl-C",
+                text: "Shows this table on a terminal, the most messages first, anew each second, until --seconds, q or Ctrl-C",
             },
             ArgumentHelp {
                 name: "hex",
