@@ -94,7 +94,7 @@ def statuses():
 
 def sentences():
     """What finds each text of the programs' code that has more words than values, and two at least; anything stands for a value."""
-    crates = [it for it in TOP.glob("crates/*/src") if not it.parent.name.startswith(("tests_", "cases_", "bench_"))]
+    crates = [it for it in TOP.glob("crates/*/src") if not it.parent.name.startswith(("tests_", "cases", "bench_"))]
     files = "\n".join(file.read_text(encoding="utf-8") for it in crates for file in it.rglob("*.rt"))
     texts = {before_pointer(it).strip() for it in re.findall(r'"((?:[^"\\\n]|\\.)*)"', files)}
     pieces = [re.split(r"\{[^}]*\}", it) for it in texts]
