@@ -11,7 +11,7 @@ use Rattle.message_build.specs.declared.error.BuildError.{BuildError}
 use Rattle.bus_messages.specs.Sent.{Builds, error_asked}
 use Rattle.bus_messages.specs.declared.error_name.ErrorName.TheVariants.{NoReply, NoMemory}
 use Rattle.bus_messages.specs.declared.exceeded.Exceeded.TheVariants.{Calls}
-use Rattle.router.specs.OpenCall.{OpenCall}
+use Rattle.router.specs.declared.open_call.OpenCall.{OpenCall}
 use Rattle.router.specs.OpenCalls.{AreCallsTo, calls_of, oldest_to, shard_count, without, without_all, without_any}
 use Rattle.router.specs.Passes.{PassState}
 use Rattle.router.specs.Sent.{Sent}

@@ -12,7 +12,7 @@ use Rattle.bus_messages.specs.declared.error_name.ErrorName.TheVariants.{NoReply
 use Rattle.bus_messages.specs.declared.exceeded.Exceeded.TheVariants.{Calls, MessageLen}
 use Rattle.unique_name.specs.UniqueNames.{unique_name}
 use Rattle.router.specs.BusError.{BusError}
-use Rattle.router.specs.OpenCall.{OpenCall}
+use Rattle.router.specs.declared.open_call.OpenCall.{OpenCall}
 use Rattle.router.specs.OpenCalls.{AreCallsTo, calls_of, shard_count, without_all}
 use Rattle.router.specs.Passes.{PassState}
 use Rattle.router.specs.Routes.{HasNotPut}

@@ -24,5 +24,4 @@ pub use Rattle.passes.specs.declared.name_call.NameCall
 pub use Rattle.passes.specs.Admission
 pub use Rattle.passes.specs.Readings
 pub use Rattle.passes.specs.Asking
-pub use Rattle.open_calls.specs.OpenCalls
-pub use Rattle.open_calls.specs.declared.open_call.OpenCall
+pub mod OpenCalls

@@ -8,9 +8,10 @@ ghost use Rattle.passes.specs.Passes.{PassState, new_pass};
 ghost use Rattle.passes.specs.Calls.{Once, Answers, Connects};
 ghost use Rattle.passes.specs.Readings.{AddsMatch, RemovesMatch, Attaches};
 
+use crate::open_calls::OpenCalls;
+use crate::shards::Shards;
 use bpf_code::Ins;
 use monitors::Monitors;
-use open_calls::{OpenCalls, Shards};
 use outbox::{Tally, Turn};
 use owners::WellKnown;
 use passes::{

@@ -1,6 +1,6 @@
 use Rattle.std.proofs.Common.{List, length, Result}
 use Rattle.std.specs.Result.{result_and}
-use Rattle.router.specs.OpenCall.{OpenCall}
+use Rattle.router.specs.declared.open_call.OpenCall.{OpenCall}
 use Rattle.peers.specs.declared.error.AnswerError.{AnswerError}
 use Rattle.peers.specs.Calling.{EndsCalls}
 use Rattle.peers.specs.PeerState.{PeerState}

@@ -14,20 +14,20 @@ const COUNT: usize = SHARDS as usize;
 /// The calls of all connections that wait for their replies, as threads share them: those of a few connections under one
 /// lock, so that who calls seldom waits for another.
 #[derive(Drop)]
-pub struct Shards {
+pub(crate) struct Shards {
     shards: [Mutex<OpenCalls>; COUNT],
 }
 
 impl Shards {
     /// No call waits, which takes no memory.
-    pub fn new(alloc: Global) -> Shards {
+    pub(crate) fn new(alloc: Global) -> Shards {
         Shards {
             shards: array::from_fn(|_| Mutex::new(OpenCalls::new(alloc))),
         }
     }
 
     /// Waits for the lock of the shard that has the calls of this connection.
-    pub fn of_caller(&self, rt: &impl Wait, caller: u64) -> MutexGuard<'_, OpenCalls> {
+    pub(crate) fn of_caller(&self, rt: &impl Wait, caller: u64) -> MutexGuard<'_, OpenCalls> {
         self.shards[(caller % SHARDS) as usize].lock(rt)
     }
 }

@@ -1,8 +1,8 @@
 use Rattle.std.proofs.Common.{rules, ◌≡◌, ◌<◌, List, Some, length, sym, subst}
-use Rattle.open_calls.specs.declared.open_call.OpenCall.{OpenCall}
-use Rattle.open_calls.specs.OpenCalls.{oldest_to}
-use Rattle.open_calls.proofs.Fewer.{fewer}
-use Rattle.open_calls.proofs.open_calls.OpenCalls.take_call_to.Goals as goal
+use Rattle.router.specs.declared.open_call.OpenCall.{OpenCall}
+use Rattle.router.specs.OpenCalls.{oldest_to}
+use Rattle.router.proofs.Fewer.{fewer}
+use Rattle.router.proofs.open_calls.OpenCalls.take_call_to.Goals as goal
 
 pub returns-in-Some-clause-fewer : goal.returns-in-Some-clause-fewer
 returns-in-Some-clause-fewer c =

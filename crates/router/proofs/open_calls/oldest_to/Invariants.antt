@@ -1,6 +1,6 @@
 use Rattle.std.proofs.Common.{◌≡◌, drop}
-use Rattle.open_calls.specs.OpenCalls.{oldest_to}
-use Rattle.open_calls.proofs.open_calls.oldest_to.Given as goal
+use Rattle.router.specs.OpenCalls.{oldest_to}
+use Rattle.router.proofs.open_calls.oldest_to.Given as goal
 
 -- the oldest is among those that are left
 abbrev pub invariant-loop-call : goal.invariant-loop-call

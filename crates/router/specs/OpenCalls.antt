@@ -1,7 +1,7 @@
 -- Calls that wait for their replies (own).
 use Rattle.std.specs.Prelude.{ℕ, ◌≡◌, Bool, ◌&&◌, ◌==◌, not, if◌then◌else◌, List, [], ◌∷◌, Option, Some, None, filter}
 use Rattle.std.specs.List.{list_any}
-use Rattle.open_calls.specs.declared.open_call.OpenCall.{OpenCall}
+use Rattle.router.specs.declared.open_call.OpenCall.{OpenCall}
 
 -- the calls that wait, the oldest first, and for how many more there is room
 pub record Waiting : Type 0 where

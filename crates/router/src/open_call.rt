@@ -1,7 +1,7 @@
 // A call that waits for its reply.
 
 ghost use Rattle.std.specs.Prelude.{◌≡◌};
-ghost use Rattle.open_calls.specs.OpenCalls.{is_same};
+ghost use Rattle.router.specs.OpenCalls.{is_same};
 
 /// A call that was passed on, and that its caller waits for.
 #[derive(Clone, Copy)]
@@ -16,7 +16,7 @@ pub struct OpenCall {
 
 impl OpenCall {
     /// Whether caller, serial and callee are the same.
-    pub fn is_same(self, other: OpenCall) -> bool
+    pub(crate) fn is_same(self, other: OpenCall) -> bool
         ensures { result ≡ is_same self other }
     {
         self.caller == other.caller && self.serial == other.serial && self.callee == other.callee

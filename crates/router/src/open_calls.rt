@@ -1,7 +1,7 @@
 // The calls of some connections that wait for their replies.
 
 ghost use Rattle.std.specs.Prelude.{◌≡◌, ◌<◌, ◌+◌, [], ◌∷◌, ◌++◌, length, IfSome, OnOk};
-ghost use Rattle.open_calls.specs.OpenCalls.{calls_of, calls_of_others, is_among, oldest_to, without, without_any};
+ghost use Rattle.router.specs.OpenCalls.{calls_of, calls_of_others, is_among, oldest_to, without, without_any};
 
 use crate::open_call::OpenCall;
 use std::alloc::{AllocError, Global};
@@ -16,7 +16,7 @@ pub struct OpenCalls {
 impl Model for OpenCalls {
     ghost use Rattle.std.specs.Prelude.{◌-◌};
     ghost use Rattle.std.specs.Vec.{vec_capacity, vec_len};
-    ghost use Rattle.open_calls.specs.OpenCalls.{Waiting};
+    ghost use Rattle.router.specs.OpenCalls.{Waiting};
 
     ghost Value = { Waiting };
 
@@ -25,7 +25,7 @@ impl Model for OpenCalls {
 
 impl OpenCalls {
     /// None, which takes no memory.
-    pub fn new(alloc: Global) -> OpenCalls
+    pub(crate) fn new(alloc: Global) -> OpenCalls
         ensures { result.calls ≡ [] }
     {
         OpenCalls {
