@@ -7,3 +7,5 @@ pub mod Talk
 pub mod Feeding
 pub mod LineStates
 pub mod Kept
+pub mod Cookies
+pub mod KeyringErrors

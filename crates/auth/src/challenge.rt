@@ -12,7 +12,7 @@ use itoa::Buffer;
 use sha1::Sha1;
 
 /// The name of the keyring's file, of which clients are told.
-pub const CONTEXT: &str = "dbusfan";
+pub(crate) const CONTEXT: &str = "dbusfan";
 
 /// How many bytes a question has at most.
 pub(crate) const QUESTION_LEN: usize = 64;

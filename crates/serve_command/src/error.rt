@@ -6,8 +6,8 @@ ghost use Rattle.serve_command.specs.Status.{IsStatus};
 
 use crate::reasons::NO_USER;
 use crate::words::WordFault;
+use auth::KeyringError;
 use command_line::{Output, Writer};
-use keyring::KeyringError;
 use std::alloc::{AllocError, Global};
 use std::io::ErrorKind;
 use std::{fmt, io};

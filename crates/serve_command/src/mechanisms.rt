@@ -5,8 +5,8 @@ ghost use Rattle.serve_command.specs.Admitting.{AdmitsAsAsked, is_tcp};
 
 use crate::error::Refusal;
 use crate::options::Options;
+use auth::Keyring;
 use endpoints::{Listener, own_user};
-use keyring::Keyring;
 use server::{External, Mechanisms};
 use std::alloc::Global;
 use std::env;

@@ -2,8 +2,7 @@
 
 ghost use Rattle.std.specs.Prelude.{◌≡◌, None};
 
-use keyring::Keyring;
-use sessions::{Admission, CookieChallenge, External};
+use sessions::{Admission, CookieChallenge, External, Keyring};
 use std::alloc::Global;
 use std::fs::Files;
 use std::random::RandomSource;

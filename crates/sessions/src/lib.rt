@@ -18,7 +18,7 @@ mod step;
 mod talk;
 mod writing;
 
-pub use auth::{Admission, CookieChallenge, External};
+pub use auth::{Admission, CookieChallenge, External, Keyring};
 pub use ending::Rest;
 pub use error::SessionError;
 pub use laws::handled_in_order;

@@ -1,7 +1,7 @@
 -- What is said where there is no cookie (own).
 use Rattle.std.specs.Prelude.{ℕ, List, codes, Option, Some, None}
-use Rattle.keyring.specs.declared.error.KeyringError.{KeyringError}
-use Rattle.keyring.specs.declared.error.KeyringError.TheVariants.{NotPrivate, Locked, Failed, NoMemory}
+use Rattle.auth.specs.declared.keyring_error.KeyringError.{KeyringError}
+use Rattle.auth.specs.declared.keyring_error.KeyringError.TheVariants.{NotPrivate, Locked, Failed, NoMemory}
 
 -- what is printed of an error; of one of the system, what that says itself
 abbrev pub text_of : KeyringError → Option (List ℕ)

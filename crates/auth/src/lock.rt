@@ -1,6 +1,6 @@
 // The lock under which servers change a keyring's file.
 
-use crate::error::KeyringError;
+use crate::keyring_error::KeyringError;
 use std::fs::{Files, OpenOptions};
 use std::io::ErrorKind;
 use std::os::unix::fs::OpenOptionsExt;

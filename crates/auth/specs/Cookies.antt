@@ -1,14 +1,12 @@
 -- Cookies and the lines in which they stand (D-Bus Specification, "DBUS_COOKIE_SHA1").
 use Rattle.std.specs.Prelude.{◌≡◌, ◌<◌, ◌-◌, ◌^◌, ◌&&◌, nat_le, Bool, ℕ, List, ◌∷◌, ◌++◌}
 use Rattle.std.specs.Str.Parse.{IsNumeral, digits_value}
-use Rattle.keyring.specs.declared.cookie.Cookie.{Cookie}
+use Rattle.auth.specs.declared.cookie.Cookie.{Cookie}
+use Rattle.auth.specs.Commands.{space}
 
 -- decimal digits that stand for a number below a bound
 abbrev pub IsNumber : List ℕ → ℕ → ℕ → Type 0
 IsNumber digits number bound = IsNumeral 10 digits × (digits_value 10 digits < bound) × (number ≡ digits_value 10 digits)
-
-abbrev pub space : ℕ
-space = 32
 
 -- the number, when it was made, and the secret, a space between them
 abbrev pub Spells : Cookie → List ℕ → Type 0

@@ -1,7 +1,8 @@
 // Cookies, each a line of a keyring's file.
 
 ghost use Rattle.std.specs.Prelude.{◌≡◌, ◌∷◌, ◌++◌, ◌&&◌, ◌-◌, ◌<◌, ◌^◌, nat_le, List, ℕ, IfSome, IfOk};
-ghost use Rattle.keyring.specs.Cookies.{IsNumber, Spells, space, is_kept, is_fresh};
+ghost use Rattle.auth.specs.Commands.{space};
+ghost use Rattle.auth.specs.Cookies.{IsNumber, Spells, is_kept, is_fresh};
 
 use std::fmt;
 
@@ -18,19 +19,19 @@ const AHEAD: u64 = 300;
 pub(crate) const DIGITS: usize = 48;
 
 /// A cookie of the number of digits that this crate makes.
-#[derive(Clone, Copy, Debug, PartialEq, Eq)]
-pub struct Cookie {
+#[derive(Clone, Copy)]
+pub(crate) struct Cookie {
     /// Its number, which no other in the file has.
-    pub id: u32,
+    pub(crate) id: u32,
     /// When it was made, in seconds since 1970.
-    pub time: u64,
+    pub(crate) time: u64,
     /// The secret, in hexadecimal digits.
-    pub digits: [u8; 48],
+    pub(crate) digits: [u8; 48],
 }
 
 impl Cookie {
     /// The cookie that a line spells, without its line end.
-    pub fn read(line: &str) -> Option<Cookie>
+    pub(crate) fn read(line: &str) -> Option<Cookie>
         ensures { IfSome result (λ cookie. Spells cookie line.now) }
     {
         let (id_text, rest) = at_space(line)?;
@@ -42,14 +43,14 @@ impl Cookie {
     }
 
     /// Whether it stays in the file at a time.
-    pub fn is_kept(&self, now: u64) -> bool
+    pub(crate) fn is_kept(&self, now: u64) -> bool
         ensures { result ≡ is_kept self.now now }
     {
         now.saturating_sub(self.time) <= FRESH + LATE && self.time.saturating_sub(now) <= AHEAD
     }
 
     /// Whether clients may be asked for it at a time.
-    pub fn is_fresh(&self, now: u64) -> bool
+    pub(crate) fn is_fresh(&self, now: u64) -> bool
         ensures { result ≡ is_fresh self.now now }
     {
         now.saturating_sub(self.time) <= FRESH && self.time.saturating_sub(now) <= AHEAD

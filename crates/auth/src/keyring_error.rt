@@ -17,7 +17,7 @@ pub enum KeyringError {
 }
 
 impl fmt::Display for KeyringError {
-    ghost use Rattle.keyring.specs.Errors.{text_of};
+    ghost use Rattle.auth.specs.KeyringErrors.{text_of};
 
     ghost output = { λ error. text_of error };
 

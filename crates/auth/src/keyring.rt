@@ -1,9 +1,9 @@
 // A user's keyring.
 
+use crate::challenge::{CONTEXT, CookieChallenge};
 use crate::cookie::{Cookie, DIGITS};
-use crate::error::KeyringError;
+use crate::keyring_error::KeyringError;
 use crate::lock::{Lock, OWNER_ALONE};
-use auth::{CONTEXT, CookieChallenge};
 use std::alloc::Global;
 use std::fs::{DirBuilder, File, Files, OpenOptions};
 use std::io::{ErrorKind, Write};

@@ -1,2 +1,0 @@
-pub mod Cookies
-pub mod Errors
