@@ -9,7 +9,7 @@ use Rattle.message_view.specs.Message.{Message}
 use Rattle.message_view.specs.Valid.{Valid}
 use Rattle.match_rule.specs.RuleTree.{RuleTree, sender_name_of}
 use Rattle.filter.specs.FilterTree.{FilterTree}
-use Rattle.rule_misses.specs.Misses.{MissesBy}
+use Rattle.rule_reasons.specs.Misses.{MissesBy}
 use Rattle.summary.specs.declared.edition.Edition.{Edition}
 use Rattle.summary.specs.declared.edition.Edition.TheVariants.{Two}
 use Rattle.summary.specs.ImageBytes.{image_bytes}

@@ -12,7 +12,7 @@ use Rattle.summary.specs.declared.edition.Edition.{Edition}
 use Rattle.summary.specs.ImageBytes.{image_bytes}
 use Rattle.bpf_trace.specs.Traces.{IsTrace}
 use Rattle.rule_reasons.specs.Reasons.{AreAllReasons, after_fronts}
-use Rattle.rule_misses.specs.Misses.{MissesBy}
+use Rattle.rule_reasons.specs.Misses.{MissesBy}
 use Rattle.filter_reasons.specs.TestsOf.{tests_of}
 use Rattle.filter_reasons.specs.Telling.{AreTold as AreTestLines}
 use Rattle.dbusfan_tool.specs.declared.judgement.Judgement.{Judgement}

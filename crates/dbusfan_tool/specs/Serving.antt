@@ -4,7 +4,7 @@ use Rattle.message_view.specs.Message.{Message}
 use Rattle.match_rule.specs.RuleTree.{RuleTree}
 use Rattle.filter.specs.FilterTree.{FilterTree}
 use Rattle.filter.specs.Filters.{tree_of}
-use Rattle.rule_misses.specs.Misses.{MissesBy}
+use Rattle.rule_reasons.specs.Misses.{MissesBy}
 use Rattle.summary.specs.declared.edition.Edition.TheVariants.{Two}
 use Rattle.summary.specs.Sets.{has_slot, IsSet}
 use Rattle.rule_compile.specs.Compiled.{IsCompiled}

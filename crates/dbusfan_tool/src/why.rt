@@ -4,7 +4,7 @@ ghost use Rattle.std.specs.Prelude.{IfOk, string_bytes};
 ghost use Rattle.message_view.specs.Message.{Message};
 ghost use Rattle.message_view.specs.Valid.{Valid};
 ghost use Rattle.filter.specs.Filters.{tree_of};
-ghost use Rattle.rule_misses.specs.Misses.{MissesBy};
+ghost use Rattle.rule_reasons.specs.Misses.{MissesBy};
 ghost use Rattle.dbusfan_tool.specs.Judges.{AreTold, AreTestsTold};
 
 use filter::Filter;
@@ -12,8 +12,7 @@ use filter_compile::CompileError;
 use filter_reasons::push_tests;
 use match_rule::Rule;
 use message_view::View;
-use rule_misses::miss_count;
-use rule_reasons::push_reasons;
+use rule_reasons::{miss_count, push_reasons};
 use std::alloc::{AllocError, Global};
 
 /// What is told of a message, whether senders own the names that are asked for, and what comes before each line of it.

@@ -10,7 +10,7 @@ use Rattle.match_rule.specs.declared.condition.Condition.{Condition}
 use Rattle.match_rule.specs.Condition.{key_of}
 use Rattle.match_rule.specs.RuleTree.{RuleTree, sender_name_of}
 use Rattle.match_rule.specs.Holds.{ConditionHolds, Holds}
-use Rattle.rule_misses.specs.Misses.{MissesBy}
+use Rattle.rule_reasons.specs.Misses.{MissesBy}
 use Rattle.rule_reasons.specs.Reasons.{AreAllReasons, after_fronts}
 use Rattle.filter.specs.FilterTree.{FilterTree}
 use Rattle.filter.specs.Grammar.{ReadsAs}

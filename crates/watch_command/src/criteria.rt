@@ -13,8 +13,7 @@ use bpf_machine::run;
 use bpf_verify::Verified;
 use match_rule::{Condition, Field, Key, Relation, Rule, Source};
 use message_view::View;
-use rule_misses::miss_count;
-use rule_reasons::{holds, push_reasons};
+use rule_reasons::{holds, miss_count, push_reasons};
 use std::alloc::{AllocError, Global};
 use summary::{Edition, Image, Slots};
 

@@ -5,11 +5,11 @@ ghost use Rattle.message_view.specs.Message.{Message, destination_of};
 ghost use Rattle.message_view.specs.Valid.{Valid};
 ghost use Rattle.rule_reasons.specs.Reasons.{AreReasons, lines_to};
 ghost use Rattle.rule_reasons.specs.Steps.{Adds};
-ghost use Rattle.rule_misses.specs.Misses.{MissesBy};
+ghost use Rattle.rule_reasons.specs.Misses.{MissesBy};
 
+use crate::holding::holds;
 use match_rule::{Condition, Rule};
 use message_view::View;
-use rule_reasons::holds;
 
 /// How many reasons a condition gives: one if it doesn't hold.
 fn condition_misses(condition: &Condition, view: &View<'_>, owns: bool) -> usize

@@ -1,7 +1,7 @@
 use Rattle.std.proofs.Common.{[], ◌++◌, length-append, refl, arith}
 use Rattle.rule_reasons.specs.Reasons.{no_more}
 use Rattle.rule_reasons.proofs.Lines.{one_turn}
-use Rattle.rule_misses.proofs.counting.conditions_miss.Goals as goal
+use Rattle.rule_reasons.proofs.misses.conditions_miss.Goals as goal
 
 pub loop-condition-init : goal.loop-condition-init
 loop-condition-init c = (omega arith, λ m valid. ([], no_more, refl))

@@ -3,7 +3,7 @@ use Rattle.match_rule.specs.declared.condition.Condition.{Condition}
 use Rattle.message_view.specs.Message.{destination_of}
 use Rattle.rule_reasons.specs.Reasons.{AreReasons, lines_to}
 use Rattle.rule_reasons.proofs.Lines.{of_eavesdropper, of_other}
-use Rattle.rule_misses.proofs.counting.miss_count.Goals as goal
+use Rattle.rule_reasons.proofs.misses.miss_count.Goals as goal
 
 pub returns-then-eavesdrops : goal.returns-then-eavesdrops
 returns-then-eavesdrops c = λ m valid.
