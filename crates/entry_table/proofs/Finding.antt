@@ -8,7 +8,7 @@ use Rattle.std.proofs.lemmas.Bool.{eqb-true, eqb-false, ne_eqb, eq-eqb, or_left,
 use Rattle.std.specs.Prelude.{Option, Some, None, option_map, IfSome, is_some, find, filter, All, AllPairs}
 use Rattle.std.specs.Option.{option_or}
 use Rattle.std.specs.List.{list_any}
-use Rattle.place_lists.specs.PlaceLists.{has_place, AreOnce}
+use Rattle.entry_table.specs.PlaceLists.{has_place, AreOnce}
 use Rattle.entry_table.specs.declared.entry.Entry.{Entry}
 use Rattle.entry_table.specs.declared.search.Wanted.{Wanted}
 use Rattle.entry_table.specs.declared.search.Wanted.TheVariants.{Any}

@@ -7,7 +7,7 @@ use Rattle.message_view.specs.Message.{Message, path_of}
 use Rattle.match_rule.specs.FixedTexts.{FixedTexts, texts_from, AreFound}
 use Rattle.match_rule.specs.Holds.{InNamespace}
 use Rattle.match_rule.specs.PathNamespaces.{HasPathIn}
-use Rattle.place_lists.specs.PlaceLists.{has_place, AreOnce}
+use Rattle.entry_table.specs.PlaceLists.{has_place, AreOnce}
 use Rattle.entry_table.specs.declared.entry.Entry.{Entry}
 use Rattle.entry_table.specs.Namespaces.{AreInside}
 use Rattle.entry_table.specs.OfferedEntries.{texts_fixed, namespaces_fixed}

@@ -5,8 +5,8 @@ use Rattle.std.proofs.Math.Nat.{mod-lt}
 use Rattle.std.proofs.lemmas.List.{length-set, length-replicate, get_or-replicate, get_or_past}
 use Rattle.std.proofs.lemmas.Bool.{cases_eq, cases_lt, lt-ltb}
 use Rattle.std.specs.Prelude.{Some, replicate}
-use Rattle.place_lists.specs.PlaceLists.{PlaceLists, places_in, has_place, without, AreOnce, empty_lists}
-use Rattle.place_lists.proofs.Places.{AreOnce-without}
+use Rattle.entry_table.specs.PlaceLists.{PlaceLists, places_in, has_place, without, AreOnce, empty_lists}
+use Rattle.entry_table.proofs.Places.{AreOnce-without}
 use Rattle.entry_table.specs.declared.entry.Entry.{Entry}
 use Rattle.entry_table.specs.declared.text_points.TextPoints.{TextPoints}
 use Rattle.entry_table.specs.declared.index.Index.{Index}

@@ -3,8 +3,8 @@ use Rattle.std.proofs.Common.{◌≡◌, ◌≢◌, ℕ, ◌<◌, ◌≤◌, ◌
 use Rattle.std.proofs.lemmas.List.{length-set, length-replicate, get_or-replicate}
 use Rattle.std.proofs.lemmas.Bool.{eqb-true, ne_eqb, eq-eqb, or_parts, or_from, or_left, or_right, cases_eq, cases_Bool, cond-true, cond-false, not_from_true, not_from_false}
 use Rattle.std.specs.Prelude.{Option, Some, filter, find, option_map}
-use Rattle.place_lists.specs.PlaceLists.{PlaceLists, places_in, has_place, without, AreOnce, IsFree, empty_lists}
-use Rattle.place_lists.proofs.Places.{Out-from_test, without-out}
+use Rattle.entry_table.specs.PlaceLists.{PlaceLists, places_in, has_place, without, AreOnce, IsFree, empty_lists}
+use Rattle.entry_table.proofs.Places.{Out-from_test, without-out}
 use Rattle.entry_table.specs.declared.entry.Entry.{Entry}
 use Rattle.entry_table.specs.PlacedEntries.{Placed, places_of, entry_at, but_at, room}
 use Rattle.entry_table.specs.IndexLists.{places_with_key, IsKeyed, put_in, taken_from}

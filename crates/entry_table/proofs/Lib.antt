@@ -1,3 +1,7 @@
+mod Chains
+mod Changes
+mod Places
+mod Powers
 pub mod WholeRules
 pub mod Placing
 pub mod Keying

@@ -8,7 +8,7 @@ use Rattle.std.specs.Prelude.{Option, filter, Contains, All, AllPairs, if◌then
 use Rattle.std.specs.List.{filter_map}
 use Rattle.message_view.specs.Message.{Message, path_of}
 use Rattle.match_rule.specs.FixedTexts.{FixedTexts, texts_from}
-use Rattle.place_lists.specs.PlaceLists.{PlaceLists, has_place, AreOnce}
+use Rattle.entry_table.specs.PlaceLists.{PlaceLists, has_place, AreOnce}
 use Rattle.entry_table.specs.declared.entry.Entry.{Entry}
 use Rattle.entry_table.specs.declared.index.Index.{Index}
 use Rattle.entry_table.specs.declared.text_points.TextPoints.{TextPoints}

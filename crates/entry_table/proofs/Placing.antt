@@ -1,7 +1,7 @@
 -- Places but one.
 use Rattle.std.proofs.Common.{◌≡◌, ◌≢◌, ℕ, Bool, false, not, ◌||◌, List, [], ◌∷◌, refl, sym, ap, ◌∙◌, eqb, inl, inr}
 use Rattle.std.proofs.lemmas.Bool.{eqb-true, ne_eqb, or_from, cond-true, cond-false, cases_Bool, not_from_true, not_from_false}
-use Rattle.place_lists.specs.PlaceLists.{has_place, without}
+use Rattle.entry_table.specs.PlaceLists.{has_place, without}
 use Rattle.entry_table.specs.PlacedEntries.{Placed, places_of, but_at}
 
 pub has_place-gone : (place : ℕ) (places : List ℕ) → has_place place (without place places) ≡ false

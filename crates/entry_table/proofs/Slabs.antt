@@ -3,7 +3,7 @@ use Rattle.std.proofs.Common.{◌≡◌, ◌≢◌, ℕ, zero, suc, ◌<◌, ◌
 use Rattle.std.proofs.lemmas.Bool.{eq-eqb, ne_eqb, or_parts, lt-ltb, le-ltb, ltb-true, ltb-false, cases_Bool, false≢true, cond-true, cond-false, not_from_true, not_from_false}
 use Rattle.std.proofs.lemmas.List.Sums.{sum_by-cons}
 use Rattle.std.specs.Prelude.{Option, Some, None, is_some, option_map, find}
-use Rattle.place_lists.specs.PlaceLists.{has_place, AreOnce}
+use Rattle.entry_table.specs.PlaceLists.{has_place, AreOnce}
 use Rattle.entry_table.specs.declared.entry.Entry.{Entry}
 use Rattle.entry_table.specs.PlacedEntries.{Placed, by_id, with_slot, placed_from, places_of, entry_at, but_at}
 use Rattle.entry_table.specs.Searching.{AreGiven, AreBelow}

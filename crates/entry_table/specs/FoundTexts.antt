@@ -4,7 +4,7 @@ use Rattle.std.specs.Str.{bytes_eq}
 use Rattle.std.specs.List.{filter_map}
 use Rattle.message_view.specs.Message.{Message}
 use Rattle.match_rule.specs.FixedTexts.{FixedTexts, texts_from}
-use Rattle.place_lists.specs.PlaceLists.{PlaceLists, places_in, has_place, AreOnce}
+use Rattle.entry_table.specs.PlaceLists.{PlaceLists, places_in, has_place, AreOnce}
 use Rattle.entry_table.specs.declared.entry.Entry.{Entry}
 use Rattle.entry_table.specs.declared.index.Index.{Index}
 use Rattle.entry_table.specs.declared.offers.Cursor.{Cursor}

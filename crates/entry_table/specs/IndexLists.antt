@@ -1,6 +1,6 @@
 -- Inner: the lists of places by which entries are looked up.
 use Rattle.std.specs.Prelude.{◌≡◌, ℕ, ◌+◌, ◌-◌, ◌%◌, ◌<◌, true, List, ◌∷◌, filter, length, replicate, ◌==◌, slice_index, slice_set}
-use Rattle.place_lists.specs.PlaceLists.{PlaceLists, places_in, has_place, without, AreOnce, IsFree, empty_lists}
+use Rattle.entry_table.specs.PlaceLists.{PlaceLists, places_in, has_place, without, AreOnce, IsFree, empty_lists}
 use Rattle.entry_table.specs.declared.entry.Entry.{Entry}
 use Rattle.entry_table.specs.declared.text_points.TextPoints.{TextPoints}
 use Rattle.entry_table.specs.declared.index.Index.{Index}

@@ -1,3 +1,8 @@
+pub mod PlaceLists
+pub mod Links
+pub mod TextWords
+pub mod Hashes
+pub mod Powers
 pub mod CompiledRule
 pub mod WholeProgram
 pub mod AttachedProgram

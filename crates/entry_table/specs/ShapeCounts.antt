@@ -1,6 +1,6 @@
 -- Inner: how many entries have each shape, and which shapes are in use.
 use Rattle.std.specs.Prelude.{◌≡◌, ℕ, ◌&&◌, Bool, List, length, nat_lt, slice_index}
-use Rattle.place_lists.specs.PlaceLists.{PlaceLists, places_in, has_place}
+use Rattle.entry_table.specs.PlaceLists.{PlaceLists, places_in, has_place}
 
 -- how many shapes there are
 abbrev pub shape_count : ℕ

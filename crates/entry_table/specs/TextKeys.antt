@@ -2,7 +2,7 @@
 use Rattle.std.specs.Prelude.{◌≡◌, ℕ, ◌+◌, ◌*◌, ◌/◌, ◌%◌, ◌^◌, List, [], ◌∷◌, Option, Some, None, option_map, ◌==◌, if◌then◌else◌}
 use Rattle.std.specs.Option.{ForSome}
 use Rattle.core.specs.Hash.DefaultHasher.{with_keys, write, finish}
-use Rattle.text_hash.specs.Hashes.{prime, text_hash as hash_at}
+use Rattle.entry_table.specs.Hashes.{prime, text_hash as hash_at}
 use Rattle.match_rule.specs.FixedTexts.{FixedTexts}
 use Rattle.entry_table.specs.declared.index_key.IndexKey.{IndexKey}
 use Rattle.entry_table.specs.declared.text_points.TextPoints.{TextPoints}

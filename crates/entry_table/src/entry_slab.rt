@@ -26,7 +26,7 @@ impl Model for EntrySlab {
 
 impl EntrySlab {
     ghost use Rattle.std.specs.Prelude.{◌≡◌, ◌<◌, ◌∷◌, [], true, false, length, IfOk, option_map};
-    ghost use Rattle.place_lists.specs.PlaceLists.{has_place, AreOnce};
+    ghost use Rattle.entry_table.specs.PlaceLists.{has_place, AreOnce};
     ghost use Rattle.entry_table.specs.PlacedEntries.{places_of, entry_at, but_at};
     ghost use Rattle.entry_table.specs.Searching.{AreBelow};
 

@@ -4,12 +4,13 @@ use crate::entry::Entry;
 use crate::entry_slab::EntrySlab;
 use crate::lookup_texts::LookupTexts;
 use crate::offers::Offers;
+use crate::place_lists::Lists;
 use crate::shapes::Shapes;
 use crate::table::MAX_ENTRIES;
 use crate::text_points::TextPoints;
 use crate::texts::{HASH_LISTS, MessageTexts, list_of};
+use crate::walk::Walk;
 use message_view::View;
-use place_lists::{Lists, Walk};
 use std::alloc::{AllocError, Global};
 
 /// How many lists there are for connections: a connection's is that of its number modulo this.
@@ -36,7 +37,7 @@ impl Index {
     ghost use Rattle.std.specs.Prelude.{◌≡◌, ◌+◌, ◌%◌, IfOk, length, option_map};
     ghost use Rattle.message_view.specs.Message.{Message};
     ghost use Rattle.message_view.specs.Valid.{Valid};
-    ghost use Rattle.place_lists.specs.PlaceLists.{places_in};
+    ghost use Rattle.entry_table.specs.PlaceLists.{places_in};
     ghost use Rattle.entry_table.specs.IndexLists.{standing_of, empty_index, with_place, without_place, CanStand, Stands, connection_lists};
     ghost use Rattle.entry_table.specs.TextKeys.{hash_lists};
     ghost use Rattle.entry_table.specs.FoundTexts.{IsLookedUp};

@@ -3,10 +3,10 @@
 ghost use Rattle.std.specs.Prelude.{◌≡◌};
 ghost use Rattle.entry_table.specs.TextKeys.{point_of, points_of};
 
+use crate::point::Point;
 use crate::text_points::TextPoints;
 use core::hash::keyed_hasher;
 use std::hash::Hasher;
-use text_hash::Point;
 
 /// The key of the hash by which texts are looked up. Whoever doesn't know it can't choose texts whose hashes meet.
 #[derive(Clone, Copy)]

@@ -5,8 +5,8 @@ use crate::entry_slab::EntrySlab;
 use crate::index::Index;
 use crate::index_key::IndexKey;
 use crate::offers::Offers;
+use crate::walk::Walk;
 use message_view::View;
-use place_lists::Walk;
 use std::alloc::{AllocError, Global};
 use std::marker::Model;
 
@@ -34,7 +34,7 @@ impl IndexedEntries {
     ghost use Rattle.message_view.specs.Message.{Message};
     ghost use Rattle.message_view.specs.Valid.{Valid};
     ghost use Rattle.match_rule.specs.FixedTexts.{texts_from};
-    ghost use Rattle.place_lists.specs.PlaceLists.{has_place, AreOnce};
+    ghost use Rattle.entry_table.specs.PlaceLists.{has_place, AreOnce};
     ghost use Rattle.entry_table.specs.declared.entry.Entry.{Entry};
     ghost use Rattle.entry_table.specs.OfferedEntries.{AreOffered};
     ghost use Rattle.entry_table.specs.PlacedEntries.{places_of, entry_at, but_at};

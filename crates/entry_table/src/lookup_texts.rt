@@ -5,11 +5,12 @@ ghost use Rattle.entry_table.specs.TextKeys.{bit_of, hash_of_texts, text_hash};
 
 use crate::attachment::AskedTexts;
 use crate::entry::Filter;
+use crate::hash::text_hash;
 use crate::namespaces::{arg0_namespace, front_of, path_namespace};
+use crate::point::Point;
 use crate::text_points::TextPoints;
 use match_rule::{FixedTexts, Rule};
 use std::marker::Model;
-use text_hash::{Point, text_hash};
 
 /// 1 where there is a text.
 fn bit_of(text: Option<&str>) -> u16

@@ -7,8 +7,9 @@ ghost use Rattle.entry_table.specs.FoundTexts.{is_offered, offered_at, coming, I
 use crate::entry::{Entry, Filter};
 use crate::entry_slab::EntrySlab;
 use crate::lookup_texts::LookupTexts;
+use crate::place_lists::Lists;
 use crate::texts::{HASH_LISTS, MessageTexts};
-use place_lists::{Lists, Walk};
+use crate::walk::Walk;
 use std::marker::Model;
 
 /// Whether an entry has the shape and a message with these texts is offered to it. Entries of other texts stand in
@@ -123,7 +124,7 @@ impl<'a> Model for Offers<'a> {
 }
 
 impl<'a> Offers<'a> {
-    ghost use Rattle.place_lists.specs.PlaceLists.{places_in};
+    ghost use Rattle.entry_table.specs.PlaceLists.{places_in};
 
     /// The entries of a slab that a message with these texts is offered to: those of no text, and after them
     /// those of these shapes.

@@ -6,8 +6,8 @@ ghost use Rattle.entry_table.specs.Searching.{suits, is_wanted, is_wanted_in, la
 
 use crate::entry::Entry;
 use crate::indexed_entries::IndexedEntries;
+use crate::walk::Walk;
 use match_rule::Rule;
-use place_lists::Walk;
 
 /// Which entry of a connection is looked for.
 #[derive(Clone, Copy)]

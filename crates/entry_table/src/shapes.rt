@@ -1,6 +1,7 @@
 // The shapes of entries: which texts they are looked up by.
 
-use place_lists::{Lists, Walk};
+use crate::place_lists::Lists;
+use crate::walk::Walk;
 use std::alloc::{AllocError, Global};
 use std::marker::Model;
 
@@ -31,7 +32,7 @@ impl Model for Shapes {
 
 impl Shapes {
     ghost use Rattle.std.specs.Prelude.{◌≡◌, ◌<◌, ◌+◌, ◌-◌, ℕ, true, false, length, replicate, slice_index, slice_set, IfOk};
-    ghost use Rattle.place_lists.specs.PlaceLists.{has_place, AreOnce};
+    ghost use Rattle.entry_table.specs.PlaceLists.{has_place, AreOnce};
     ghost use Rattle.entry_table.specs.ShapeCounts.{shape_count, is_in_use};
 
     /// Counts of no entries. Only this call takes memory.

@@ -1,6 +1,6 @@
 // The points at which texts are hashed.
 
-use text_hash::Point;
+use crate::point::Point;
 
 /// The point at which the texts of each key are hashed. They differ, so that one text has two hashes under
 /// two keys.

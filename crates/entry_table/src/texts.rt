@@ -13,11 +13,11 @@ ghost use Rattle.entry_table.specs.Lookups.{first_texts, of_shape_after};
 
 use crate::lookup_texts::{LookupTexts, hash_of, join_hashes};
 use crate::namespaces::{arg0_namespace, front_after, path_namespace};
+use crate::point::Point;
 use crate::text_points::TextPoints;
 use match_rule::{FixedTexts, Rule, arg0_of};
 use message_view::View;
 use std::marker::Model;
-use text_hash::Point;
 
 /// How many lists there are for entries that are looked up by a text, by the hash of their texts.
 pub(crate) const HASH_LISTS: usize = 32768;

@@ -1,7 +1,7 @@
 // Hashes of texts. The values are what a program of another language makes of the polynomial.
 
+use entry_table::{Point, text_hash};
 use std::process::Abort;
-use text_hash::{Point, text_hash};
 
 /// A path of 136 bytes, of whose twenty words sixteen are multiplied by powers that the point has.
 const LONG: &str =

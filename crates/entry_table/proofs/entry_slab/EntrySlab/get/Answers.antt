@@ -1,6 +1,6 @@
 use Rattle.std.proofs.Common.{sym, ap, ◌∙◌, ℕ, List, get_or, subst}
 use Rattle.std.specs.Prelude.{None}
-use Rattle.place_lists.specs.PlaceLists.{AreOnce}
+use Rattle.entry_table.specs.PlaceLists.{AreOnce}
 use Rattle.entry_table.specs.PlacedEntries.{Placed, places_of, entry_at}
 use Rattle.entry_table.proofs.Slabs.{AreOnce-placed, entry_at-placed}
 use Rattle.entry_table.proofs.entry_slab.EntrySlab.get.Goals as goal

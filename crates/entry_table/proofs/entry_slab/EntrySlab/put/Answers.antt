@@ -1,6 +1,6 @@
 use Rattle.std.proofs.Common.{◌≡◌, false, ◌∷◌, subst, sym, ap, ◌∙◌, arith, List, length}
 use Rattle.std.specs.Prelude.{Option, is_some}
-use Rattle.place_lists.specs.PlaceLists.{has_place}
+use Rattle.entry_table.specs.PlaceLists.{has_place}
 use Rattle.entry_table.specs.declared.entry.Entry.{Entry}
 use Rattle.entry_table.specs.PlacedEntries.{Placed, placed_from, places_of}
 use Rattle.entry_table.specs.Searching.{AreBelow}

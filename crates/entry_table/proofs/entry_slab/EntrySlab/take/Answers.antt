@@ -1,6 +1,6 @@
 use Rattle.std.proofs.Common.{◌≡◌, true, sym, subst, ap, ◌∙◌, ℕ, List, get_or}
 use Rattle.std.specs.Prelude.{Option, None, is_some, IsSome}
-use Rattle.place_lists.specs.PlaceLists.{has_place}
+use Rattle.entry_table.specs.PlaceLists.{has_place}
 use Rattle.entry_table.specs.declared.entry.Entry.{Entry}
 use Rattle.entry_table.specs.PlacedEntries.{Placed, placed_from, places_of, entry_at, but_at}
 use Rattle.entry_table.proofs.Slabs.{has_place-entry_at, entry_at-placed, placed-take}

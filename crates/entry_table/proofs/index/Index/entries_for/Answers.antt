@@ -1,5 +1,5 @@
 use Rattle.std.proofs.Common.{ap, ◌∙◌}
-use Rattle.place_lists.specs.PlaceLists.{places_in}
+use Rattle.entry_table.specs.PlaceLists.{places_in}
 use Rattle.entry_table.specs.FoundTexts.{coming}
 use Rattle.entry_table.specs.TextKeys.{KeyedTexts, hash_lists}
 use Rattle.entry_table.proofs.index.Index.entries_for.Goals as goal

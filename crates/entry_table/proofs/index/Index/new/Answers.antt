@@ -1,5 +1,5 @@
 use Rattle.std.proofs.Common.{ap, ◌∙◌, ℕ, List}
-use Rattle.place_lists.specs.PlaceLists.{PlaceLists, empty_lists}
+use Rattle.entry_table.specs.PlaceLists.{PlaceLists, empty_lists}
 use Rattle.entry_table.specs.PlacedEntries.{room}
 use Rattle.entry_table.specs.IndexLists.{connection_lists}
 use Rattle.entry_table.proofs.index.Index.new.Goals as goal

@@ -4,7 +4,7 @@ use Rattle.std.specs.List.{list_any}
 use Rattle.std.proofs.lemmas.Bool.{leb-false, eqb-true, or_parts, or_cases}
 use Rattle.std.proofs.lemmas.Iterator.Search.{any_from_yields_List}
 use Rattle.std.proofs.lemmas.Iterator.Consumers.{YieldsList-from_first}
-use Rattle.place_lists.specs.PlaceLists.{has_place}
+use Rattle.entry_table.specs.PlaceLists.{has_place}
 use Rattle.entry_table.specs.ShapeCounts.{is_in_use}
 use Rattle.entry_table.proofs.shapes.Shapes.has_arg0.Goals as goal
 

@@ -1,7 +1,0 @@
-use Rattle.std.proofs.Common.{◌*◌, ◌%◌, ◌∙◌, ap}
-use Rattle.text_hash.specs.Hashes.{prime, absorb}
-use Rattle.text_hash.proofs.hash.absorb.Goals as goal
-
-pub returns-clause-value : goal.returns-clause-value
-unfolding absorb
-returns-clause-value c = c.product.ensures.value ∙ ap (λ n. n * c.args.point % prime) c.remainder.ensures

@@ -1,6 +1,0 @@
-use Rattle.std.proofs.Common.{◌≡◌, ◌<◌}
-use Rattle.text_hash.specs.Hashes.{prime, words_hash}
-use Rattle.text_hash.proofs.hash.words_hash.Given as goal
-
-abbrev pub invariant-loop-i : goal.invariant-loop-i
-invariant-loop-i l = (l.hash ≡ words_hash l.point l.text l.i) × (l.hash < prime)
