@@ -4,8 +4,8 @@
 //! namespaces that they ask for. A message is looked up for each shape in use, that is for each choice of keys that some
 //! entry has: once, or, where the shape has a namespace, once for each namespace that the message's text is in. What is
 //! done for one connection goes over the list of that connection. A list is chosen by a hash of the texts, under points
-//! that nobody outside knows. The lists are lists over places: a place is put at the front of one, or taken out wherever
-//! it stands, in constant time, and nothing grows.
+//! that nobody outside knows. It links places: one is put at the front of a list, or taken out wherever it stands, in
+//! constant time, and nothing grows.
 #![tactic(auto)]
 
 mod attachment;
