@@ -1,5 +1,4 @@
-//! What the benchmark of messages calls from C.
-#![tactic(auto)]
+// Reading messages.
 
 ghost use Rattle.std.specs.Prelude.{◌<◌};
 

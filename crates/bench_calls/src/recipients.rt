@@ -1,6 +1,6 @@
 // Recipients of a message.
 
-use crate::rules::{Rules, state_of};
+use crate::states::{Rules, state_of};
 use arrayvec::ArrayVec;
 use fan_out::{Marks, select_counted, select_into};
 use message_view::View;

@@ -1,5 +1,0 @@
-//! What the benchmark of programs and rules calls from C.
-#![tactic(auto)]
-
-mod programs;
-mod rules;
