@@ -135,14 +135,14 @@ def check_settings(report):
 def check_trials(report):
     """Each trial, case and function that SECURITY names is there: a trial under its words, others under their names."""
     page, there = Page("docs/SECURITY.md"), source("clients/robust") + source("clients/rows.py")
-    there += "".join(it.read_text(encoding="utf-8") for it in TOP.glob("crates/*/data/*.cases"))
+    there += "".join(it.read_text(encoding="utf-8") for it in TOP.glob("crates/*/data/**/*.cases"))
     there += "".join(it.read_text(encoding="utf-8") for it in TOP.glob("crates/*/src/**/*.rt"))
     for table in page.tables():
         for line, cells in table.rows:
             for name in re.findall(r"`([^`]+)`", cells[-1]):
                 word = re.split(r"::|\.", name.replace(" ", "_"))
                 word = word[0] if name.endswith(".cases") else word[-1]
-                report.check(re.search(rf"\b{word}\b", there) or [*TOP.glob(f"crates/*/data/{name}")] or [*TOP.glob(f"crates/{name}")]
+                report.check(re.search(rf"\b{word}\b", there) or [*TOP.glob(f"crates/*/data/**/{name}")] or [*TOP.glob(f"crates/{name}")]
                              or in_specs(word), page.at(line), f"nothing has this name: {name}")
 
 

@@ -1,6 +1,5 @@
 //! Tests of signatures, messages, their building and stamping, streams and images, and of the rules and programs that choose
-//! among messages: what no line of a case can say, and what each does without memory. The cases are in `cases_messages` and
-//! `cases_rules`.
+//! among messages: what no line of a case can say, and what each does without memory. The cases are in `cases`.
 //!
 //! A failure ends a test at once: a function that holds a message or a program then has one way out, and its proof is short.
 #![tactic(auto)]

@@ -1,6 +1,6 @@
 // The image that a case's program is run over.
 
-use crate::refusal::Refusal;
+use super::refusal::Refusal;
 use bpf_machine::{Outcome, run};
 use bpf_verify::Verified;
 use case_files::LineError;

@@ -1,7 +1,7 @@
 // What a case asks of its program.
 
-use crate::refusal::Refusal;
-use crate::{image, program};
+use super::refusal::Refusal;
+use super::{image, program};
 use case_files::{Fields, Judge, LineError};
 use std::alloc::Global;
 

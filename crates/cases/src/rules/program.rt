@@ -1,6 +1,6 @@
 // A case's program, and what is said of it alone.
 
-use crate::refusal::Refusal;
+use super::refusal::Refusal;
 use bpf_code::{Ins, decode, encode};
 use bpf_text::{assemble, assemble_bytes, print};
 use bpf_verify::{Verified, verify};

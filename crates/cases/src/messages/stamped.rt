@@ -1,6 +1,6 @@
 // Messages with their sender's name.
 
-use crate::spelling::words_of;
+use super::spelling::words_of;
 use case_files::{Fields, Judge, LineError};
 use message_build::{StampError, stamp};
 use message_view::View;

@@ -1,7 +1,7 @@
 // What the view of a message lends.
 
-use crate::composing::signal;
-use crate::pushing::{push_number, push_quoted};
+use super::composing::signal;
+use super::pushing::{push_number, push_quoted};
 use case_files::{Fields, Judge, LineError};
 use message_view::{Arg, Extent, Kind, Order, TextField, View};
 use std::alloc::{AllocError, Global};

@@ -1,6 +1,6 @@
 // How long a message will be, as its first bytes say.
 
-use crate::headers::validity;
+use super::headers::validity;
 use case_files::{Fields, Judge, LineError};
 use message_view::{MsgError, View, frame_len};
 use std::alloc::{AllocError, Global};

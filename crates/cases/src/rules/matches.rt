@@ -1,6 +1,6 @@
 // Of which messages rules hold: by the plain test and by the verdict of the text's program.
 
-use crate::verdict::Verdict;
+use super::verdict::Verdict;
 use case_files::{Fields, Judge, LineError, digits};
 use match_rule::{Rule, RuleError};
 use message_view::View;

@@ -1,6 +1,6 @@
 // Messages that are built.
 
-use crate::spelling::words_of;
+use super::spelling::words_of;
 use case_files::{Fields, Judge, LineError, digits};
 use message_build::{BuildError, Builder};
 use message_view::Kind;

@@ -1,6 +1,6 @@
 // Whether messages are valid.
 
-use crate::composing::{message, pad};
+use super::composing::{message, pad};
 use case_files::{Fields, Judge, LineError, digits};
 use message_view::View;
 use std::alloc::Global;

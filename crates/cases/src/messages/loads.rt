@@ -1,6 +1,6 @@
 // Loads from an image.
 
-use crate::asked::image_of;
+use super::asked::image_of;
 use case_files::{Fields, Judge, LineError};
 use std::alloc::Global;
 use std::fmt::Write;

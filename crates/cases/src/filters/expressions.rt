@@ -1,6 +1,6 @@
 // Which texts are filters, and what these weigh.
 
-use crate::printed::reads_back;
+use super::printed::reads_back;
 use case_files::{Fields, Judge, LineError};
 use filter::{Filter, FilterError};
 use std::alloc::Global;

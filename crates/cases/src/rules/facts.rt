@@ -1,7 +1,7 @@
 // What a rule is made of.
 
-use crate::matches::SLOT;
-use crate::texts::read;
+use super::matches::SLOT;
+use super::texts::read;
 use case_files::{Fields, Judge, LineError};
 use match_rule::{Field, Key, Relation, Rule, Source};
 use rule_compile::{CompileError, compile};

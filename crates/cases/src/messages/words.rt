@@ -2,7 +2,7 @@
 
 ghost use Rattle.std.specs.Prelude.{◌≤◌};
 
-use crate::asked::{edition_of, image_of};
+use super::asked::{edition_of, image_of};
 use case_files::{Fields, Judge, LineError};
 use std::alloc::{AllocError, Global};
 use std::fmt::Write;
