@@ -1,7 +1,8 @@
 //! Tests of the state of the bus and of what stands on it: names and their slots, entries, commands, recipients, the core
-//! without threads, and lists of events as text; and of what threads share: outboxes, senders, the published state, and the
-//! bus through its calls and its passes. Each is named after its worked example, or after the call that it shows. What a test
-//! holds at its end is forgotten, so that its proof has nothing to say of what is dropped.
+//! without threads, and lists of events as text; and of what threads share: outboxes, senders, the published state, the bus
+//! through its calls and its passes, and a sole writer in every interleaving of three threads' calls. Each is named after
+//! its worked example, or after the call that it shows. What a test holds at its end is forgotten, so that its proof has
+//! nothing to say of what is dropped.
 #![tactic(auto)]
 
 #[cfg(test)]
@@ -66,3 +67,5 @@ mod thousand_rules;
 mod workers;
 #[cfg(test)]
 mod world_calls;
+#[cfg(test)]
+mod writer;
