@@ -2,7 +2,7 @@
 
 use owners::Change;
 use program_table::{Refusal, Reply};
-use world_text::{Owner, RefusalWord, TextAnswer};
+use world::text::{Owner, RefusalWord, TextAnswer};
 
 /// The answer that a reply is.
 pub(crate) fn text_of_reply(reply: &Reply) -> TextAnswer<'_> {

@@ -9,7 +9,7 @@ use router::{Bus, BusBrand, Opened, PlainMailbox};
 use std::alloc::{AllocError, Global};
 use std::marker::Brand;
 use std::sync::Wait;
-use world_text::TextEvent;
+use world::text::TextEvent;
 
 /// Plays each list on a bus of its own.
 #[derive(Drop)]

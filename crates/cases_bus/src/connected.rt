@@ -10,7 +10,7 @@ use router::{Bus, BusBrand, Pass, PlainMailbox, Reply, Source};
 use std::alloc::{AllocError, Global};
 use std::collections::BTreeMap;
 use std::sync::Wait;
-use world_text::{TextAnswer, TextEvent};
+use world::text::{TextAnswer, TextEvent};
 
 /// The recipients of a broadcast, by rising number.
 type Recipients = ArrayVec<u64, 4096>;

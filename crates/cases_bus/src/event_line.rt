@@ -2,14 +2,14 @@
 
 use case_files::LineError;
 use std::alloc::Global;
-use world_text::{Line, TextEvent};
+use world::text::{Line, TextEvent};
 
 /// The event of a line.
 pub(crate) fn read_event(alloc: Global, line: &str) -> Result<TextEvent<'_>, LineError> {
     let (words, _) = split_line(line)?;
     match Line::read(alloc, words.as_bytes()) {
         Ok(Line::Event(event)) => Ok(event),
-        Err(world_text::LineError::NoMemory) => Err(LineError::NoMemory),
+        Err(world::text::LineError::NoMemory) => Err(LineError::NoMemory),
         _ => Err(LineError::Unreadable),
     }
 }

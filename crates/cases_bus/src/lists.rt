@@ -8,7 +8,7 @@ use case_files::LineError;
 use std::alloc::{AllocError, Global};
 use std::io::{self, BufWriter, Read, Write};
 use std::rt::Runtime;
-use world_text::{TextEvent, read_list};
+use world::text::{TextEvent, read_list};
 
 /// Who plays lists of events. What the answers say is judged by cases.
 pub(crate) trait Player {

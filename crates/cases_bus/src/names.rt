@@ -1,7 +1,7 @@
 // The names of requests and releases.
 
 use owners::{ClaimError, WellKnown};
-use world_text::{ClaimWord, TextAnswer};
+use world::text::{ClaimWord, TextAnswer};
 
 /// The name that a text is.
 ///

@@ -7,7 +7,7 @@ use router::{AskedTexts, Bus, BusBrand, Pass, PlainMailbox, Reply};
 use std::alloc::Global;
 use std::sync::Wait;
 use summary::Edition;
-use world_text::TextEvent;
+use world::text::TextEvent;
 
 /// Calls the bus as an event of the pass's connection says.
 pub(crate) fn call<B: BusBrand, R: Wait>(

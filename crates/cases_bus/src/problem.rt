@@ -3,7 +3,7 @@
 use std::alloc::AllocError;
 use std::error::Error;
 use std::{fmt, io};
-use world_text::ListError;
+use world::text::ListError;
 
 /// Why the files of cases or a list aren't played to their end.
 #[derive(Debug, Drop)]

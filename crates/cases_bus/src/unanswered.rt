@@ -5,7 +5,7 @@ use bpf_verify::VerifyError;
 use message_view::MsgError;
 use router::{BusError, Refusal};
 use std::alloc::{AllocError, AllocFailed, Global};
-use world_text::TextAnswer;
+use world::text::TextAnswer;
 
 /// Why an event of a list has no reply of the bus.
 #[derive(Drop)]

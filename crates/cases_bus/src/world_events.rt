@@ -14,8 +14,8 @@ use program_table::{Command, Refusal, Reply};
 use rule_compile::CompileError;
 use std::alloc::{AllocError, Global};
 use summary::Edition;
+use world::text::{RefusalWord, TextAnswer, TextEvent};
 use world::{Event, World};
-use world_text::{RefusalWord, TextAnswer, TextEvent};
 
 /// Where the events of a list stand among the world's.
 #[derive(Drop)]

@@ -5,8 +5,8 @@ use crate::answers::text_of_reply;
 use crate::lists::Player;
 use crate::world_events::{Places, event_of};
 use std::alloc::{AllocError, Global};
+use world::text::{TextAnswer, TextEvent};
 use world::{Answer, Event, World};
-use world_text::{TextAnswer, TextEvent};
 
 /// Plays each list in a world of its own.
 #[derive(Clone, Copy)]

@@ -5,7 +5,7 @@ use match_rule::RuleError;
 use message_view::MsgError;
 use std::alloc::Global;
 use std::process::Abort;
-use world_text::{ClaimWord, ListError, Owner, RefusalWord, TextAnswer};
+use world::text::{ClaimWord, ListError, Owner, RefusalWord, TextAnswer};
 
 const ANSWERS: [(TextAnswer<'static>, &str); 19] = [
     (TextAnswer::Connected(3), "connected 3"),

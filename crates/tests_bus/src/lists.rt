@@ -4,7 +4,7 @@ use std::alloc::Global;
 use std::mem::forget;
 use std::process::Abort;
 use summary::Edition;
-use world_text::{Line, LineError, ListError, TextEvent, read_list};
+use world::text::{Line, LineError, ListError, TextEvent, read_list};
 
 const EACH_FORM: &str = "# a remark
 connect

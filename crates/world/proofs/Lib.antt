@@ -3,3 +3,6 @@ mod Growing
 mod Keeping
 mod Next
 mod Doing
+pub mod Cuts
+pub mod ListLines
+pub mod Numbers

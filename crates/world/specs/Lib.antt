@@ -5,3 +5,10 @@ pub mod OpenJobs
 pub mod WorldState
 pub mod IsWorld
 pub mod Steps
+pub mod Errors
+pub mod Words
+pub mod EventText
+pub mod Lines
+pub mod Lists
+pub mod Reads
+pub mod AnswerText

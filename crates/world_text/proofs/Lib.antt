@@ -1,3 +1,0 @@
-pub mod Cuts
-pub mod ListLines
-pub mod Numbers

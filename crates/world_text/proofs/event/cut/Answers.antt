@@ -1,5 +1,0 @@
-use Rattle.world_text.proofs.Cuts.{cut_at_blank}
-use Rattle.world_text.proofs.event.cut.Goals as goal
-
-pub returns : goal.returns
-returns c = cut_at_blank c.args.text.now c.split_once.result c.split_once.ensures.cases
