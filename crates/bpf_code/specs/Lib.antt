@@ -1,3 +1,4 @@
+pub mod Standard
 pub mod Bytes
 pub mod Effects
 pub mod Flow
