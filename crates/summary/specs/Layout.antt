@@ -5,14 +5,13 @@ use Rattle.message_view.specs.declared.extent.TextField.{TextField}
 use Rattle.message_view.specs.declared.extent.TextField.TheVariants.{Path, Interface, Member, ErrorName, Destination, Sender}
 use Rattle.summary.specs.declared.edition.Edition.{Edition}
 use Rattle.summary.specs.declared.edition.Edition.TheVariants.{One, Two}
-use Rattle.summary.specs.declared.layout.TheConstants.{KIND_PLACE}
 
 -- the head: the byte order, the kind, the flags, the body's place and its length, the number of arguments
 abbrev pub order_place : ℕ
 order_place = 0
 
 abbrev pub kind_place : ℕ
-kind_place = KIND_PLACE
+kind_place = 4
 
 abbrev pub flags_place : ℕ
 flags_place = 8

@@ -3,6 +3,8 @@ ghost use Rattle.std.specs.Prelude.{◌≡◌, ◌<◌, ◌^◌, ℕ, List, leng
 ghost use Rattle.message_view.specs.Message.{Message};
 ghost use Rattle.message_view.specs.Valid.{Valid};
 ghost use Rattle.summary.specs.ImageBytes.{image_bytes};
+ghost use Rattle.summary.specs.Layout.{kind_place};
+ghost use Rattle.summary.specs.declared.layout.TheConstants.{KIND_PLACE};
 ghost use Rattle.summary.specs.Shown.{Shows};
 ghost use Rattle.summary.specs.declared.edition.Edition.{Edition};
 
@@ -14,4 +16,9 @@ pub fn image_shows_message()
         → length slots ≡ 32
         → ((i : ℕ) → slice_index slots i < 2 ^ 32)
         → Shows edition (image_bytes edition m slots) m slots }
+{}
+
+/// `KIND_PLACE` is the place of the word of the kind.
+pub fn kind_has_its_place()
+    ensures { KIND_PLACE ≡ kind_place }
 {}

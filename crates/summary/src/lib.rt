@@ -15,7 +15,7 @@ mod words;
 
 pub use edition::Edition;
 pub use image::Image;
-pub use laws::image_shows_message;
+pub use laws::{image_shows_message, kind_has_its_place};
 pub use layout::{KIND_PLACE, argument_place, ownership_place, text_place};
 pub use pieces::Pieces;
 pub use slots::Slots;
