@@ -1,4 +1,4 @@
--- Messages whose file descriptors weren't taken (own).
+-- Inner: messages whose file descriptors weren't taken (own).
 use Rattle.std.specs.Prelude.{ℕ, ◌≡◌, ◌++◌, List, length, replicate}
 
 -- the same bytes but for four, a number in their midst, which is 0

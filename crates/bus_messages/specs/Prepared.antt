@@ -1,4 +1,4 @@
--- Messages whose header fields are known before, but for the destination: how they are put together (own).
+-- Inner: messages whose header fields are known before, but for the destination: how they are put together (own).
 use Rattle.std.specs.Prelude.{◌≡◌, ℕ, ◌≤◌, ◌<◌, ◌^◌, true, List, [], ◌∷◌, ◌++◌, length, Option, Some, None}
 use Rattle.signature.specs.DataType.{basic}
 use Rattle.signature.specs.Name.{is_bus_name}

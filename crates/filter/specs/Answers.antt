@@ -1,4 +1,4 @@
--- What readers answer, as what reading gives (own).
+-- Inner: what readers answer, as what reading gives (own).
 use Rattle.std.specs.Prelude.{◌≡◌, Result, Ok, Err}
 use Rattle.filter.specs.declared.error.Fault.{Fault}
 use Rattle.filter.specs.declared.error.StepError.{StepError}

@@ -1,4 +1,4 @@
--- Inner: filters that are lent.
+-- Filters that are lent.
 use Rattle.std.specs.Prelude.{List, map}
 use Rattle.std.specs.Borrow.{Bor}
 use Rattle.filter.specs.FilterTree.{FilterTree}

@@ -1,4 +1,4 @@
--- Of which messages a monitor's rule holds that asks for a destination (D-Bus Specification, "Match Rules": `destination`). A
+-- Inner: of which messages a monitor's rule holds that asks for a destination (D-Bus Specification, "Match Rules": `destination`). A
 -- connection may be sent a message by each of its names.
 use Rattle.std.specs.Prelude.{◌≡◌, ℕ, Bool, true, false, List, Option, Some, None, All, MatchBool, MatchOption}
 use Rattle.message_view.specs.Message.{Message}

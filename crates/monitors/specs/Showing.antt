@@ -1,4 +1,4 @@
--- What becomes of a message that is shown to a monitor (own).
+-- Inner: what becomes of a message that is shown to a monitor (own).
 use Rattle.std.specs.Prelude.{◌≡◌, ◌++◌, ◌∷◌, [], ℕ, Bool, true, false, List, None}
 use Rattle.message_view.specs.Message.{Message}
 use Rattle.outbox.specs.Items.{Item}

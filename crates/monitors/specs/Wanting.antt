@@ -1,4 +1,4 @@
--- Which messages a monitor gets (D-Bus Specification, "org.freedesktop.DBus.Monitoring.BecomeMonitor"). Whether the
+-- Inner: which messages a monitor gets (D-Bus Specification, "org.freedesktop.DBus.Monitoring.BecomeMonitor"). Whether the
 -- sender owns a rule's sender name is what `answers` allows, and whether the message's destination and the rule's have one owner
 -- what `unites` allows. Each rule has answers of its own.
 use Rattle.std.specs.Prelude.{◌≡◌, ◌⊎◌, ℕ, Bool, List, [], All, Any, IfSome}

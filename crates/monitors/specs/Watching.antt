@@ -1,4 +1,4 @@
--- What clauses see of a monitor (own).
+-- Inner: what clauses see of a monitor (own).
 use Rattle.std.specs.Prelude.{ℕ, Bool, List}
 use Rattle.outbox.specs.Items.{Item}
 use Rattle.match_rule.specs.RuleTree.{RuleTree}

@@ -1,4 +1,4 @@
--- Inner: what is kept of a well-known name.
+-- What is kept of a well-known name.
 use Rattle.std.specs.Prelude.{ℕ, ◌&&◌, Bool, not, List}
 use Rattle.std.specs.Str.{bytes_eq}
 use Rattle.signature.specs.Name.{bus_name}

@@ -1,4 +1,4 @@
--- Which mailbox each connection of a history was given (own).
+-- Inner: which mailbox each connection of a history was given (own).
 use Rattle.std.specs.Prelude.{ℕ, zero, suc, List, Option, Some, None, slice_get}
 use Rattle.std.specs.List.{filter_map}
 use Rattle.program_table.specs.declared.command.Command.{Command}

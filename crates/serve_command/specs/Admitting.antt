@@ -1,4 +1,4 @@
--- Whom a bus lets in (own).
+-- Inner: whom a bus lets in (own).
 use Rattle.std.specs.Prelude.{◌≡◌, ◌↔◌, ◌&&◌, ◌||◌, Bool, true, false, IsTrue}
 use Rattle.endpoints.specs.declared.listener.Listener.{Listener}
 use Rattle.endpoints.specs.declared.listener.Listener.TheVariants.{Tcp}

@@ -1,4 +1,4 @@
--- Which messages are shown, by the options (own).
+-- Inner: which messages are shown, by the options (own).
 use Rattle.std.specs.Prelude.{◌&&◌, not, List, if◌then◌else◌}
 use Rattle.watch_command.specs.Sayings.{Saying}
 use Rattle.watch_command.specs.Options.{has, is_monitor}

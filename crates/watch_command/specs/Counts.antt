@@ -1,4 +1,4 @@
--- What is said of how many messages each rule took (own).
+-- Inner: what is said of how many messages each rule took (own).
 use Rattle.std.specs.Prelude.{ℕ, List, [], ◌∷◌, ◌++◌, codes, decimal}
 
 -- a count and what it counts

@@ -1,4 +1,4 @@
--- What filter expressions are refused for (own).
+-- Inner: what filter expressions are refused for (own).
 use Rattle.std.specs.Prelude.{◌≡◌, ℕ, ◌<◌, List, ◌++◌, codes, Some, Err, slice_get, string_bytes}
 use Rattle.filter.specs.FilterTree.{FilterTree}
 use Rattle.filter.specs.Grammar.{ReadsAs}

@@ -1,4 +1,4 @@
--- Who owns which names, as far as a bus has told (own).
+-- Inner: who owns which names, as far as a bus has told (own).
 use Rattle.std.specs.Prelude.{ℕ, Bool, false, ◌&&◌, List, Option, Some, None}
 use Rattle.std.specs.List.{list_any}
 use Rattle.std.specs.Str.{bytes_eq}

@@ -1,4 +1,4 @@
--- Which rules of a connection `--of` counts by (own).
+-- Inner: which rules of a connection `--of` counts by (own).
 use Rattle.std.specs.Prelude.{◌≡◌, ◌⊎◌, ℕ, List, [], ◌∷◌, ◌++◌}
 use Rattle.match_rule.specs.RuleTree.{RuleTree}
 use Rattle.match_rule.specs.Grammar.{ReadsAs}

@@ -1,4 +1,4 @@
--- Texts that are drawn on a terminal in place of what stood there, by control sequences: from its first place on (ECMA-48, 8.3.21,
+-- Inner: texts that are drawn on a terminal in place of what stood there, by control sequences: from its first place on (ECMA-48, 8.3.21,
 -- CUP), each line cut to the columns and the rest of it erased (8.3.41, EL), and all below erased (8.3.39, ED).
 use Rattle.std.specs.Prelude.{ℕ, ◌-◌, ◌==◌, List, [], ◌∷◌, ◌++◌, codes, if◌then◌else◌}
 

@@ -1,4 +1,4 @@
--- Which messages `watch` shows (own).
+-- Inner: which messages `watch` shows (own).
 use Rattle.std.specs.Prelude.{◌≡◌, ◌↔◌, ◌⊎◌, ℕ, Bool, true, false, IsTrue, not, ◌==◌, List, [], ◌∷◌, Option, Some, None, is_some, All, MatchBool, length}
 use Rattle.message_view.specs.Message.{Message, destination_of, sender_of}
 use Rattle.match_key.specs.Key.{key_eq}

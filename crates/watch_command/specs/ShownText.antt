@@ -1,4 +1,4 @@
--- A text of another program, as a terminal is given it: what isn't printable ASCII by a backslash and its octal digits, the rest as
+-- Inner: a text of another program, as a terminal is given it: what isn't printable ASCII by a backslash and its octal digits, the rest as
 -- it is (own).
 use Rattle.std.specs.Prelude.{ℕ, List, [], ◌∷◌, if◌then◌else◌}
 use Rattle.std.specs.List.{flat_map}

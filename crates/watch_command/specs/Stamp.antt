@@ -1,4 +1,4 @@
--- Times in front of lines: seconds since 1970 with six digits after the point (own, as dbus-monitor writes them).
+-- Inner: times in front of lines: seconds since 1970 with six digits after the point (own, as dbus-monitor writes them).
 use Rattle.std.specs.Prelude.{ℕ, ◌+◌, ◌/◌, ◌%◌, List, [], ◌∷◌, ◌++◌, codes, decimal}
 
 -- a digit of a number, from this power of ten on
