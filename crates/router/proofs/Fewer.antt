@@ -1,8 +1,8 @@
 -- That one call fewer waits once one was taken away.
-use Rattle.std.proofs.Common.{◌≡◌, ◌<◌, ◌≤◌, ℕ, ◌==◌, ◌&&◌, Bool, true, false, true≢false, not, List, [], ◌∷◌, Option, Some, None, length, refl, sym, ap, subst, ◌∙◌, arith, eq-eqb}
-use Rattle.std.specs.Prelude.{filter, if◌then◌else◌, cond}
+use Rattle.std.proofs.Common.{◌≡◌, ◌<◌, ◌≤◌, ℕ, ◌==◌, Bool, true, false, true≢false, List, [], ◌∷◌, Some, length, refl, sym, subst, ◌∙◌, arith, eq-eqb}
+use Rattle.std.specs.Prelude.{if◌then◌else◌}
 use Rattle.router.specs.declared.open_call.OpenCall.{OpenCall}
-use Rattle.router.specs.OpenCalls.{is_same, oldest_to, without, without_any}
+use Rattle.router.specs.OpenCalls.{is_same, oldest_to, without}
 
 same_itself : (call : OpenCall) → is_same call call ≡ true
 same_itself call = rw (eq-eqb call.caller call.caller refl) (rw (eq-eqb call.serial call.serial refl) (eq-eqb call.callee call.callee refl))
